@@ -1,0 +1,4 @@
+pub mod Gives
+pub mod Paths
+pub mod Lines
+pub mod Numbers

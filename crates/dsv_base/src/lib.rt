@@ -1,0 +1,29 @@
+//! What every crate of davsvn speaks in: bytes, lists, paths, revisions, moments, and the small
+//! plain types that crates which don't stand on each other share.
+#![tactic(auto)]
+
+mod bytes;
+mod decimal;
+mod field;
+mod lines;
+mod list;
+mod moment;
+mod no_memory;
+mod path;
+mod path_fault;
+mod person;
+mod prop;
+mod rev;
+
+pub use bytes::Bytes;
+pub use decimal::read_decimal;
+pub use field::Field;
+pub use lines::first_line;
+pub use list::List;
+pub use moment::Moment;
+pub use no_memory::NoMemory;
+pub use path::Path;
+pub use path_fault::PathFault;
+pub use person::Person;
+pub use prop::Prop;
+pub use rev::Rev;

@@ -1,0 +1,172 @@
+ghost use Rattle.std.specs.Prelude.{◌≡◌, false, IsTrue, IfOk, IsErrOf, count_by};
+ghost use Rattle.std.specs.List.{list_all};
+ghost use Rattle.std.specs.Str.{is_utf8};
+ghost use Rattle.dsv_base.specs.Paths.{is_path, is_component, is_component_byte, components, is_reserved, has_noncharacter, is_below_root, is_under, is_slash, root_text};
+
+use crate::no_memory::NoMemory;
+use crate::path_fault::PathFault;
+use std::alloc::Global;
+use std::marker::Model;
+
+/// The path of a node: `/`, or 1 to 64 components, each after one `/`, in at most 1,024 bytes.
+///
+/// A component is 1 to 255 bytes of UTF-8 without `/`, without bytes below 32, without 127,
+/// U+FFFE and U+FFFF, and isn't `.`, `..` or `!svn`. Contracts see a path as its text.
+#[derive(Debug, Drop)]
+pub struct Path {
+    text: Vec<u8>,
+}
+
+impl Model for Path {
+    ghost use Rattle.std.specs.Prelude.{List, ℕ, IsTrue};
+    ghost use Rattle.dsv_base.specs.Paths.{is_path};
+
+    ghost Value = { List ℕ };
+
+    ghost view = { λ p. p.text.items };
+
+    ghost invariant = { λ p. IsTrue (is_path p.text.items) };
+}
+
+impl Path {
+    /// The path `/`. Its one error is want of memory.
+    #[tactic(auto, unfolding(crate::specs::Paths::is_path))]
+    pub fn root(alloc: Global) -> Result<Path, NoMemory>
+        ensures { IfOk result (λ p. p ≡ root_text) }
+    {
+        let text = Vec::from_slice(alloc, b"/")?;
+        Ok(Path { text })
+    }
+
+    /// The path that `text` is. [`PathFault::BadPath`] comes exactly where it is none.
+    pub fn parse(alloc: Global, text: &[u8]) -> Result<Path, PathFault>
+        ensures value { IfOk result (λ p. (p ≡ text.now) × IsTrue (is_path text.now)) }
+        ensures bad { IsErrOf result PathFault.BadPath → is_path text.now ≡ false }
+        ensures only { is_path text.now ≡ false → result ≡ Err PathFault.BadPath }
+    {
+        if !is_path_text(text) {
+            return Err(PathFault::BadPath);
+        }
+        match Vec::from_slice(alloc, text) {
+            Ok(text) => Ok(Path { text }),
+            Err(_) => Err(PathFault::NoMemory),
+        }
+    }
+
+    /// Its text.
+    pub fn text(&self) -> &[u8]
+        ensures text { result.now ≡ self.now }
+        ensures path { IsTrue (is_path self.now) }
+    {
+        self.text.as_slice()
+    }
+
+    /// Whether it is `top` or stands below it: every path is under `/`.
+    pub fn is_under(&self, top: &Path) -> bool
+        ensures { result ≡ is_under self.now top.now }
+    {
+        is_under_text(self.text.as_slice(), top.text.as_slice())
+    }
+}
+
+#[tactic(auto, unfolding(crate::specs::Paths::is_under))]
+fn is_under_text(text: &[u8], top: &[u8]) -> bool
+    ensures { result ≡ is_under text.now top.now }
+{
+    text == top
+        || top == b"/".as_slice()
+        || (text.starts_with(top) && text.len() > top.len() && text[top.len()] == b'/')
+}
+
+#[tactic(auto, unfolding(crate::specs::Paths::is_path))]
+fn is_path_text(text: &[u8]) -> bool
+    ensures { result ≡ is_path text.now }
+{
+    match text {
+        [] => false,
+        [first, rest @ ..] => {
+            if *first != b'/' {
+                return false;
+            }
+            if rest.is_empty() {
+                return true;
+            }
+            rest.len() <= 1023 && is_below_root_text(rest)
+        }
+    }
+}
+
+fn is_below_root_text(rest: &[u8]) -> bool
+    ensures { result ≡ is_below_root rest.now }
+{
+    if slash_count(rest) >= 64 {
+        return false;
+    }
+    are_components(rest)
+}
+
+fn slash_count(rest: &[u8]) -> usize
+    ensures { result ≡ count_by is_slash rest.now }
+{
+    rest.iter().filter(|b| **b == b'/').count()
+}
+
+fn are_components(rest: &[u8]) -> bool
+    ensures { result ≡ list_all is_component (components rest.now) }
+{
+    rest.split(|b| *b == b'/')
+        .all(|part| is_component_text(part))
+}
+
+fn is_component_text(part: &[u8]) -> bool
+    ensures { result ≡ is_component part.now }
+{
+    if part.is_empty() || part.len() > 255 {
+        return false;
+    }
+    if !has_component_bytes(part) {
+        return false;
+    }
+    if !is_utf8_text(part) {
+        return false;
+    }
+    if has_noncharacter_bytes(part) {
+        return false;
+    }
+    !is_reserved_text(part)
+}
+
+fn has_component_bytes(part: &[u8]) -> bool
+    ensures { result ≡ list_all is_component_byte part.now }
+{
+    part.iter().all(|b| *b >= 32 && *b != 127 && *b != b'/')
+}
+
+fn is_utf8_text(part: &[u8]) -> bool
+    ensures { result ≡ is_utf8 part.now }
+{
+    match std::str::from_utf8(part) {
+        Ok(_) => true,
+        Err(_) => false,
+    }
+}
+
+/// Whether U+FFFE or U+FFFF stands in it.
+fn has_noncharacter_bytes(part: &[u8]) -> bool
+    ensures { result ≡ has_noncharacter part.now }
+{
+    let mut rest = part;
+    'bytes: while let [_, after @ ..] = rest {
+        if rest.starts_with(&[0xef, 0xbf, 0xbe]) || rest.starts_with(&[0xef, 0xbf, 0xbf]) {
+            return true;
+        }
+        rest = after;
+    }
+    false
+}
+
+fn is_reserved_text(part: &[u8]) -> bool
+    ensures { result ≡ is_reserved part.now }
+{
+    part == b".".as_slice() || part == b"..".as_slice() || part == b"!svn".as_slice()
+}
