@@ -1,5 +1,6 @@
-ghost use Rattle.std.specs.Prelude.{◌≡◌};
-ghost use Rattle.dsv_base.specs.Numbers.{decimal, is_decimal};
+ghost use Rattle.std.specs.Prelude.{◌≡◌, ◌*◌, ◌+◌, ◌-◌, ◌<◌, ◌≤◌, ◌^◌, IsTrue, List, ℕ, if◌then◌else◌, Some, None, nat_le, true};
+ghost use Rattle.dsv_base.specs.Numbers.{decimal, is_decimal, is_digit, digits_after};
+ghost use Rattle.std.specs.List.{list_all};
 
 /// The number that `text` spells in decimal, without a sign and without leading zeros; `None`
 /// where it spells none, or one above `most`.
@@ -10,15 +11,35 @@ pub fn read_decimal(text: &[u8], most: u64) -> Option<u64>
     if !is_decimal_text(text) {
         return None;
     }
+    value_of(text, most)
+}
+
+/// The number of the digits, where it is at most `most`.
+fn value_of(text: &[u8], most: u64) -> Option<u64>
+    requires { list_all is_digit text.now ≡ true }
+    ensures { result ≡ (if nat_le (digits_after 0 text.now) most then Some (digits_after 0 text.now) else None) }
+{
     let mut number = 0u64;
-    'digits: for digit in text {
-        let next = u128::from(number) * 10 + u128::from(*digit - b'0');
-        if next > u128::from(most) {
-            return None;
+    let mut rest = text;
+    'digits: while let [digit, after @ ..] = rest {
+        match one_more(number, *digit, most) {
+            Some(next) => number = next,
+            None => return None,
         }
-        number = next as u64;
+        rest = after;
     }
     Some(number)
+}
+
+/// The number with one more digit, where that is at most `most`.
+fn one_more(number: u64, digit: u8, most: u64) -> Option<u64>
+    requires { IsTrue (is_digit digit) }
+    ensures { result ≡ (if nat_le (number * 10 + (digit - 48)) most then Some (number * 10 + (digit - 48)) else None) }
+{
+    number
+        .checked_mul(10)?
+        .checked_add(u64::from(digit - b'0'))
+        .filter(|next| *next <= most)
 }
 
 /// Whether it is one digit, or several of which the first isn't 0.
@@ -27,11 +48,14 @@ fn is_decimal_text(text: &[u8]) -> bool
 {
     match text {
         [] => false,
-        [first, ..] => {
-            if !text.iter().all(|b| *b >= b'0' && *b <= b'9') {
-                return false;
-            }
-            text.len() == 1 || *first != b'0'
-        }
+        [_] => are_digits(text),
+        [b'0', ..] => false,
+        _ => are_digits(text),
     }
+}
+
+fn are_digits(text: &[u8]) -> bool
+    ensures { result ≡ list_all is_digit text.now }
+{
+    text.iter().all(|b| *b >= b'0' && *b <= b'9')
 }
