@@ -1,4 +1,5 @@
 pub mod Gives
 pub mod Paths
+pub mod Names
 pub mod Lines
 pub mod Numbers

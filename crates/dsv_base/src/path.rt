@@ -1,10 +1,10 @@
 ghost use Rattle.std.specs.Prelude.{◌≡◌, false, IsTrue, IfOk, IsErrOf, count_by};
 ghost use Rattle.std.specs.List.{list_all};
-ghost use Rattle.std.specs.Str.{is_utf8};
-ghost use Rattle.dsv_base.specs.Paths.{is_path, is_component, is_component_byte, components, is_reserved, has_noncharacter, is_below_root, is_under, is_slash, root_text};
+ghost use Rattle.dsv_base.specs.Paths.{is_path, is_component, is_component_byte, components, is_reserved, is_below_root, is_under, is_slash, root_text};
 
 use crate::no_memory::NoMemory;
 use crate::path_fault::PathFault;
+use crate::text::{has_noncharacter_bytes, is_utf8_text};
 use std::alloc::Global;
 use std::marker::Model;
 
@@ -140,29 +140,6 @@ fn has_component_bytes(part: &[u8]) -> bool
     ensures { result ≡ list_all is_component_byte part.now }
 {
     part.iter().all(|b| *b >= 32 && *b != 127 && *b != b'/')
-}
-
-fn is_utf8_text(part: &[u8]) -> bool
-    ensures { result ≡ is_utf8 part.now }
-{
-    match std::str::from_utf8(part) {
-        Ok(_) => true,
-        Err(_) => false,
-    }
-}
-
-/// Whether U+FFFE or U+FFFF stands in it.
-fn has_noncharacter_bytes(part: &[u8]) -> bool
-    ensures { result ≡ has_noncharacter part.now }
-{
-    let mut rest = part;
-    'bytes: while let [_, after @ ..] = rest {
-        if rest.starts_with(&[0xef, 0xbf, 0xbe]) || rest.starts_with(&[0xef, 0xbf, 0xbf]) {
-            return true;
-        }
-        rest = after;
-    }
-    false
 }
 
 fn is_reserved_text(part: &[u8]) -> bool
