@@ -5,6 +5,7 @@ use Rattle.std.proofs.lemmas.List.Splits.{slice_split_none, slice_split_at}
 use Rattle.std.proofs.lemmas.Grind.{common_steps}
 use Rattle.std.proofs.lemmas.Bool.Decides.{nat_tests}
 use Rattle.dsv_base.specs.Lines.{lines_of, is_line_feed}
+use Rattle.dsv_base.proofs.Cuts.{cut_line-none, cut_line-at}
 use Rattle.dsv_base.proofs.lines.first_line.Goals as goal
 
 pub returns-in-None-clause-cut : goal.returns-in-None-clause-cut
@@ -26,3 +27,9 @@ all_of_rest text at = grind (arith, common_steps)
 
 pub returns-in-Some-clause-cut : goal.returns-in-Some-clause-cut
 returns-in-Some-clause-cut c = rw (all_of_rest c.args.text.now (c.in-Some.at + 1)) (cut_at c.args.text.now c.in-Some.at c.in-Some.ensures.within c.in-Some.ensures.at c.in-Some.ensures.before)
+
+pub returns-in-None-clause-first : goal.returns-in-None-clause-first
+returns-in-None-clause-first c = cut_line-none c.args.text.now c.in-None.ensures.none
+
+pub returns-in-Some-clause-first : goal.returns-in-Some-clause-first
+returns-in-Some-clause-first c = rw (all_of_rest c.args.text.now (c.in-Some.at + 1)) (cut_line-at c.args.text.now c.in-Some.at c.in-Some.ensures.within c.in-Some.ensures.at c.in-Some.ensures.before)
