@@ -10,7 +10,11 @@ is_line_feed b = b == 10
 unfoldable pub lines_of : List ℕ → List (List ℕ)
 lines_of text = slice_split is_line_feed text
 
+-- what stands before the first such byte and what stands after it, where it stands somewhere
+abbrev pub cut_at : ℕ → List ℕ → Option (List ℕ × List ℕ)
+cut_at byte [] = None
+cut_at byte (b ∷ bs) = if b == byte then Some ([], bs) else option_map (λ cut. (b ∷ cut.0, cut.1)) (cut_at byte bs)
+
 -- the first line without its line feed, and what stands after that, where there is a line feed
 abbrev pub cut_line : List ℕ → Option (List ℕ × List ℕ)
-cut_line [] = None
-cut_line (b ∷ bs) = if is_line_feed b then Some ([], bs) else option_map (λ cut. (b ∷ cut.0, cut.1)) (cut_line bs)
+cut_line text = cut_at 10 text

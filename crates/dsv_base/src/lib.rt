@@ -20,7 +20,7 @@ mod text;
 pub use bytes::Bytes;
 pub use decimal::read_decimal;
 pub use field::Field;
-pub use lines::first_line;
+pub use lines::{cut_at, first_line};
 pub use list::List;
 pub use moment::Moment;
 pub use names::{is_repository_name, is_user_name};

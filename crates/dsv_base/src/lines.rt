@@ -1,14 +1,26 @@
-ghost use Rattle.std.specs.Prelude.{◌≡◌, ◌+◌, ◌<◌, ◌∷◌, [], None, Some, false, length, MatchOption, IfSome, IfNone, All, take, slice_index};
-ghost use Rattle.dsv_base.specs.Lines.{lines_of, cut_line, is_line_feed};
+ghost use Rattle.std.specs.Prelude.{◌≡◌, ◌+◌, ◌<◌, ◌∷◌, ◌==◌, [], None, Some, false, length, MatchOption, IfSome, IfNone, All, take, slice_index};
+ghost use Rattle.dsv_base.specs.Lines.{lines_of, cut_at, cut_line};
 
-/// Where the first line ends.
-fn line_end(text: &[u8]) -> Option<usize>
-    ensures none { IfNone result (All (λ b. is_line_feed b ≡ false) text.now) }
+/// Where the byte stands first.
+fn place_of(text: &[u8], byte: u8) -> Option<usize>
+    ensures none { IfNone result (All (λ b. (b == byte) ≡ false) text.now) }
     ensures within { IfSome result (λ at. at < length text.now) }
-    ensures at { IfSome result (λ at. slice_index text.now at ≡ 10) }
-    ensures before { IfSome result (λ at. All (λ b. is_line_feed b ≡ false) (take at text.now)) }
+    ensures at { IfSome result (λ at. slice_index text.now at ≡ byte) }
+    ensures before { IfSome result (λ at. All (λ b. (b == byte) ≡ false) (take at text.now)) }
 {
-    text.iter().position(|b| *b == b'\n')
+    text.iter().position(|b| *b == byte)
+}
+
+/// What stands before the first such byte, and what stands after it; `None` where it stands
+/// nowhere.
+pub fn cut_at(text: &[u8], byte: u8) -> Option<(&[u8], &[u8])>
+    ensures cut { MatchOption result (cut_at byte text.now ≡ None) (λ x. cut_at byte text.now ≡ Some (x.0.now, x.1.now)) }
+    ensures shorter { IfSome result (λ x. length x.0.now + length x.1.now + 1 ≡ length text.now) }
+{
+    match place_of(text, byte) {
+        None => None,
+        Some(at) => Some((&text[..at], &text[at + 1..])),
+    }
 }
 
 /// The first line without its line feed, and what stands after that; `None` where there is no
@@ -18,8 +30,8 @@ pub fn first_line(text: &[u8]) -> Option<(&[u8], &[u8])>
     ensures cut { MatchOption result (lines_of text.now ≡ text.now ∷ []) (λ x. lines_of text.now ≡ x.0.now ∷ lines_of x.1.now) }
     ensures shorter { IfSome result (λ x. length x.0.now + length x.1.now + 1 ≡ length text.now) }
 {
-    match line_end(text) {
+    match cut_at(text, b'\n') {
         None => None,
-        Some(at) => Some((&text[..at], &text[at + 1..])),
+        Some((line, rest)) => Some((line, rest)),
     }
 }

@@ -1,0 +1,59 @@
+-- The trees of a repository as they are read: each place has a number beside its node. One number
+-- may stand at many places, which then are alike.
+use Rattle.std.specs.Prelude.{ℕ, ◌≡◌, List, [], Option, Some, map, slice_index_or, length}
+use Rattle.std.specs.Option.{option_map}
+use Rattle.std.specs.FinMap.{find}
+use Rattle.std.specs.Ordering.{nat_cmp}
+use Rattle.std.specs.Cmp.Lexicographic.{slice_cmp}
+use Rattle.dsv_base.specs.declared.prop.Prop.{Prop}
+use Rattle.rev_trees.specs.declared.node.Node.{Node}
+use Rattle.rev_trees.specs.Trees.{TreeNode, Tree, Revision, Repository}
+
+-- a place: its node, and the node's number
+pub record Place : Type 0 where
+  pub id : ℕ
+  pub here : TreeNode
+
+-- a revision, whose places stand in byte order of the path's text
+pub record Wood : Type 0 where
+  pub author : List ℕ
+  pub moment : ℕ
+  pub props : List Prop
+  pub places : List (List ℕ × Place)
+
+pub record Forest : Type 0 where
+  pub name : List ℕ
+  pub uuid : List ℕ
+  pub woods : List Wood
+
+-- without the numbers
+abbrev pub tree_of : List (List ℕ × Place) → Tree
+tree_of places = map (λ p. (p.0, p.1.here)) places
+
+abbrev pub revision_of_wood : Wood → Revision
+revision_of_wood wood = record { author = wood.author; moment = wood.moment; props = wood.props; tree = tree_of wood.places }
+
+abbrev pub repository_of : Forest → Repository
+repository_of forest = record { name = forest.name; uuid = forest.uuid; revisions = map revision_of_wood forest.woods }
+
+-- the places of a revision, none past the youngest
+abbrev pub places_at : Forest → ℕ → List (List ℕ × Place)
+places_at forest rev = (slice_index_or forest.woods rev (record { author = []; moment = 0; props = []; places = [] })).places
+
+abbrev pub place_at : Forest → ℕ → List ℕ → Option Place
+place_at forest rev path = find (slice_cmp nat_cmp) path (places_at forest rev)
+
+-- the number of the node at a path of a revision
+abbrev pub id_at : Forest → ℕ → List ℕ → Option ℕ
+id_at forest rev path = option_map (λ p. p.id) (place_at forest rev path)
+
+abbrev pub node_at : Forest → ℕ → List ℕ → Option Node
+node_at forest rev path = option_map (λ p. p.here.node) (place_at forest rev path)
+
+-- the number stands somewhere
+abbrev pub IsId : Forest → ℕ → Type 0
+IsId forest id = (rev : ℕ) × (path : List ℕ) × (id_at forest rev path ≡ Some id)
+
+-- wherever the number stands, this node stands
+abbrev pub IsNodeOf : Forest → ℕ → Node → Type 0
+IsNodeOf forest id node = (rev : ℕ) (path : List ℕ) → id_at forest rev path ≡ Some id → node_at forest rev path ≡ Some node

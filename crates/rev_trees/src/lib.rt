@@ -1,0 +1,14 @@
+//! A repository's revisions as trees of nodes, and the script that they are read from.
+#![tactic(auto)]
+
+mod change;
+mod commit;
+mod kind;
+mod line;
+mod node;
+mod node_id;
+mod unfit;
+
+pub use kind::Kind;
+pub use node::Node;
+pub use node_id::NodeId;
