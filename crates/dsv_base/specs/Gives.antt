@@ -5,6 +5,11 @@ abbrev pub Gives : {X E : Type 0} → (E → Bool) → Result X E → Result X E
 Gives is_free (Ok x) right = right ≡ Ok x
 Gives is_free (Err e) right = MatchBool (is_free e) (Unit {0}) (right ≡ Err e)
 
+-- the same of an answer that is seen by a view, as what a reference points to
+abbrev pub GivesBy : {X Y E : Type 0} → (X → Y) → (E → Bool) → Result X E → Result Y E → Type 0
+GivesBy view is_free (Ok x) right = right ≡ Ok (view x)
+GivesBy view is_free (Err e) right = MatchBool (is_free e) (Unit {0}) (right ≡ Err e)
+
 -- the next step of a chain, which the first error ends
 infixl 10 ◌>>=◌
 abbrev pub ◌>>=◌ : {A B E : Type 0} → Result A E → (A → Result B E) → Result B E

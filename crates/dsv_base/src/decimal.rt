@@ -1,4 +1,4 @@
-ghost use Rattle.std.specs.Prelude.{◌≡◌, ◌*◌, ◌+◌, ◌-◌, ◌<◌, ◌≤◌, ◌^◌, IsTrue, List, ℕ, if◌then◌else◌, Some, None, nat_le, true};
+ghost use Rattle.std.specs.Prelude.{◌≡◌, ◌*◌, ◌+◌, ◌-◌, ◌<◌, ◌≤◌, ◌^◌, IsTrue, IfSome, List, ℕ, if◌then◌else◌, Some, None, nat_le, true};
 ghost use Rattle.dsv_base.specs.Numbers.{decimal, is_decimal, is_digit, digits_after};
 ghost use Rattle.std.specs.List.{list_all};
 
@@ -6,7 +6,8 @@ ghost use Rattle.std.specs.List.{list_all};
 /// where it spells none, or one above `most`.
 #[tactic(auto, unfolding(crate::specs::Numbers::decimal))]
 pub fn read_decimal(text: &[u8], most: u64) -> Option<u64>
-    ensures { result ≡ decimal most text.now }
+    ensures value { result ≡ decimal most text.now }
+    ensures bound { IfSome result (λ n. n ≤ most) }
 {
     if !is_decimal_text(text) {
         return None;
@@ -17,7 +18,8 @@ pub fn read_decimal(text: &[u8], most: u64) -> Option<u64>
 /// The number of the digits, where it is at most `most`.
 fn value_of(text: &[u8], most: u64) -> Option<u64>
     requires { list_all is_digit text.now ≡ true }
-    ensures { result ≡ (if nat_le (digits_after 0 text.now) most then Some (digits_after 0 text.now) else None) }
+    ensures bound { IfSome result (λ n. n ≤ most) }
+    ensures value { result ≡ (if nat_le (digits_after 0 text.now) most then Some (digits_after 0 text.now) else None) }
 {
     let mut number = 0u64;
     let mut rest = text;
@@ -34,7 +36,8 @@ fn value_of(text: &[u8], most: u64) -> Option<u64>
 /// The number with one more digit, where that is at most `most`.
 fn one_more(number: u64, digit: u8, most: u64) -> Option<u64>
     requires { IsTrue (is_digit digit) }
-    ensures { result ≡ (if nat_le (number * 10 + (digit - 48)) most then Some (number * 10 + (digit - 48)) else None) }
+    ensures bound { IfSome result (λ n. n ≤ most) }
+    ensures value { result ≡ (if nat_le (number * 10 + (digit - 48)) most then Some (number * 10 + (digit - 48)) else None) }
 {
     number
         .checked_mul(10)?

@@ -15,7 +15,7 @@ pub record Place : Type 0 where
   pub here : TreeNode
 
 -- a revision, whose places stand in byte order of the path's text
-pub record Wood : Type 0 where
+pub record ForestRevision : Type 0 where
   pub author : List ℕ
   pub moment : ℕ
   pub props : List Prop
@@ -24,21 +24,21 @@ pub record Wood : Type 0 where
 pub record Forest : Type 0 where
   pub name : List ℕ
   pub uuid : List ℕ
-  pub woods : List Wood
+  pub revisions : List ForestRevision
 
 -- without the numbers
 abbrev pub tree_of : List (List ℕ × Place) → Tree
 tree_of places = map (λ p. (p.0, p.1.here)) places
 
-abbrev pub revision_of_wood : Wood → Revision
-revision_of_wood wood = record { author = wood.author; moment = wood.moment; props = wood.props; tree = tree_of wood.places }
+abbrev pub without_numbers : ForestRevision → Revision
+without_numbers revision = record { author = revision.author; moment = revision.moment; props = revision.props; tree = tree_of revision.places }
 
 abbrev pub repository_of : Forest → Repository
-repository_of forest = record { name = forest.name; uuid = forest.uuid; revisions = map revision_of_wood forest.woods }
+repository_of forest = record { name = forest.name; uuid = forest.uuid; revisions = map without_numbers forest.revisions }
 
 -- the places of a revision, none past the youngest
 abbrev pub places_at : Forest → ℕ → List (List ℕ × Place)
-places_at forest rev = (slice_index_or forest.woods rev (record { author = []; moment = 0; props = []; places = [] })).places
+places_at forest rev = (slice_index_or forest.revisions rev (record { author = []; moment = 0; props = []; places = [] })).places
 
 abbrev pub place_at : Forest → ℕ → List ℕ → Option Place
 place_at forest rev path = find (slice_cmp nat_cmp) path (places_at forest rev)

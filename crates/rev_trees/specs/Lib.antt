@@ -1,3 +1,4 @@
 pub mod Trees
 pub mod Changes
 pub mod Forests
+pub mod Scripts

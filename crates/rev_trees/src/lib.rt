@@ -3,12 +3,19 @@
 
 mod change;
 mod commit;
+mod cursor;
+mod item;
 mod kind;
 mod line;
 mod node;
 mod node_id;
+mod place;
+mod reader;
+mod revision;
+mod script_fault;
 mod unfit;
 
 pub use kind::Kind;
 pub use node::Node;
 pub use node_id::NodeId;
+pub use script_fault::ScriptFault;
