@@ -1,6 +1,6 @@
 -- Paths of a repository: `/`, or 1 to 64 components, each after one `/`, in at most 1,024 bytes.
 use Rattle.std.specs.Prelude.{ℕ, Bool, false, ◌&&◌, ◌||◌, not, List, [], ◌∷◌, ◌++◌, Option, None, Some, length, ◌==◌, nat_eq, nat_le, zero, suc, codes, if◌then◌else◌}
-use Rattle.std.specs.List.{list_all, slice_split, starts_with, before_last}
+use Rattle.std.specs.List.{list_all, slice_split, list_any, starts_with}
 use Rattle.std.specs.Str.{is_utf8, bytes_eq}
 use Rattle.std.specs.Option.{option_map_or}
 
@@ -43,9 +43,18 @@ root_text = 47 ∷ []
 unfoldable pub is_under : List ℕ → List ℕ → Bool
 is_under p q = bytes_eq p q || bytes_eq q root_text || starts_with nat_eq p (q ++ 47 ∷ [])
 
+-- what stands before the last `/`, or nothing where there is none
+abbrev pub before_last_slash : List ℕ → List ℕ
+before_last_slash [] = []
+before_last_slash (b ∷ bs) = if list_any is_slash bs then b ∷ before_last_slash bs else []
+
+abbrev pub or_root : List ℕ → List ℕ
+or_root [] = root_text
+or_root (b ∷ bs) = b ∷ bs
+
 -- the directory that a path stands in; `/` stands in none
 unfoldable pub parent_text : List ℕ → Option (List ℕ)
-parent_text p = if bytes_eq p root_text then None else if nat_eq (length (before_last is_slash p)) 0 then Some root_text else Some (before_last is_slash p)
+parent_text p = if bytes_eq p root_text then None else Some (or_root (before_last_slash p))
 
 -- a path, its parent, and so on, in at most this many steps
 abbrev pub upwards : ℕ → List ℕ → List (List ℕ)

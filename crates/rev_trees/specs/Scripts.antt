@@ -1,7 +1,8 @@
 -- The script that a repository is read from, in its first form: the revisions 0 and 1, of which the
 -- one has no items and the other has items `mkdir` and `put` alone.
 use Rattle.std.specs.Prelude.{ℕ, zero, suc, Bool, true, false, ◌&&◌, ◌||◌, List, [], ◌∷◌, Option, None, Some, Result, Ok, Err, length, take, drop, ◌==◌, nat_eq, nat_le, codes, if◌then◌else◌}
-use Rattle.std.specs.List.{list_all, slice_split, starts_with}
+use Rattle.std.specs.List.{list_all, starts_with}
+use Rattle.std.specs.Option.{option_and_then, option_map_or}
 use Rattle.std.specs.Str.{bytes_eq}
 use Rattle.std.specs.Char.{is_ascii_digit}
 use Rattle.dsv_base.specs.Gives.{◌>>=◌}
@@ -59,12 +60,15 @@ is_uuid_digit b = is_ascii_digit b || (nat_le 97 b && nat_le b 102)
 abbrev pub is_uuid_group : ℕ → List ℕ → Bool
 is_uuid_group count group = nat_eq (length group) count && list_all is_uuid_digit group
 
-abbrev pub are_uuid_groups : List (List ℕ) → Bool
-are_uuid_groups (a ∷ b ∷ c ∷ d ∷ e ∷ []) = is_uuid_group 8 a && is_uuid_group 4 b && is_uuid_group 4 c && is_uuid_group 4 d && is_uuid_group 12 e
-are_uuid_groups _ = false
+-- what stands after a group of so many digits and the `-` that ends it
+abbrev pub after_uuid_group : ℕ → List ℕ → Option (List ℕ)
+after_uuid_group count text = option_and_then (λ cut. if is_uuid_group count cut.0 then Some cut.1 else None) (cut_at 45 text)
+
+abbrev pub after_three_groups : List ℕ → Option (List ℕ)
+after_three_groups text = option_and_then (after_uuid_group 4) (option_and_then (after_uuid_group 4) (after_uuid_group 8 text))
 
 unfoldable pub is_uuid : List ℕ → Bool
-is_uuid text = are_uuid_groups (slice_split (λ b. b == 45) text)
+is_uuid text = option_map_or (is_uuid_group 12) (option_and_then (after_uuid_group 4) (after_three_groups text)) false
 
 -- the three lines at the head of a script: the name, the uuid, and what stands after them
 unfoldable pub heading_from : List ℕ → Result (List ℕ × List ℕ × List ℕ) ScriptFault

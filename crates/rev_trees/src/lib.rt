@@ -14,6 +14,7 @@ mod reader;
 mod revision;
 mod script_fault;
 mod unfit;
+mod uuid;
 
 pub use kind::Kind;
 pub use node::Node;

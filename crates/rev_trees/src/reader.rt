@@ -1,6 +1,6 @@
 ghost use Rattle.std.specs.Prelude.{◌≡◌, ◌+◌, ◌<◌, ◌≤◌, length, IfOk};
 ghost use Rattle.dsv_base.specs.Gives.{Gives, GivesBy};
-ghost use Rattle.rev_trees.specs.Scripts.{heading_from, revision_line, item_line, mkdir_head, put_head, change_head, mkdir_from, put_from, item_after, item_from, changes_from, commit_from, is_author, is_uuid, is_no_memory, ok_where};
+ghost use Rattle.rev_trees.specs.Scripts.{heading_from, revision_line, item_line, mkdir_head, put_head, change_head, mkdir_from, put_from, item_after, item_from, changes_from, commit_from, is_author, is_no_memory, ok_where};
 ghost use Rattle.dsv_base.specs.Paths.{is_path};
 
 use crate::change::Change;
@@ -8,6 +8,7 @@ use crate::commit::Commit;
 use crate::cursor::{after_front, bytes_from, line_from, number_from, word_from};
 use crate::item::ItemHead;
 use crate::script_fault::ScriptFault;
+use crate::uuid::is_uuid_text;
 use dsv_base::{Bytes, List, Moment, Path, PathFault, Rev, is_repository_name, is_user_name};
 use std::alloc::Global;
 
@@ -30,15 +31,6 @@ pub fn heading_from(text: &[u8]) -> Result<(&[u8], &[u8], &[u8]), ScriptFault>
         return Err(ScriptFault::NotFirst);
     }
     Ok((name, uuid, rest))
-}
-
-/// Whether it is 36 bytes: lower-case hexadecimal digits in groups of 8, 4, 4, 4 and 12, with `-`
-/// between.
-#[tactic(auto, unfolding(crate::specs::Scripts::is_uuid))]
-fn is_uuid_text(text: &[u8]) -> bool
-    ensures { result ≡ is_uuid text.now }
-{
-    false
 }
 
 /// The moment, and the length of the author's name, in the first line of the revision of this
@@ -170,4 +162,56 @@ fn path_of(alloc: Global, text: &[u8]) -> Result<Path, ScriptFault>
         Err(PathFault::BadPath) => Err(ScriptFault::NotFirst),
         Err(PathFault::NoMemory) => Err(ScriptFault::NoMemory),
     }
+}
+
+/// The changes of a revision up to its end, and what stands after that.
+fn changes_from(alloc: Global, text: &[u8]) -> Result<(List<Change>, &[u8]), ScriptFault>
+    ensures { GivesBy (λ x. (x.0, x.1.now)) is_no_memory result (changes_from (length text.now) text.now) }
+{
+    let mut changes = Vec::new(alloc);
+    let mut rest = text;
+    'items: loop {
+        let (item, after) = item_from(alloc, rest)?;
+        rest = after;
+        match item {
+            Some(change) => changes.push(change)?,
+            None => return Ok((List::of(changes), rest)),
+        }
+    }
+}
+
+/// The revision of this number, and what stands after it.
+#[tactic(auto, unfolding(crate::specs::Scripts::commit_from))]
+pub fn commit_from(alloc: Global, number: Rev, text: &[u8]) -> Result<(Commit, &[u8]), ScriptFault>
+    ensures { GivesBy (λ x. (x.0, x.1.now)) is_no_memory result (commit_from number text.now) }
+{
+    let (line, rest) = line_from(text)?;
+    let (moment, author_length) = revision_line(number, line)?;
+    let (author, rest) = bytes_from(author_length, rest)?;
+    if !is_author(author) {
+        return Err(ScriptFault::NotFirst);
+    }
+    let items = after_front(b"\n", rest)?;
+    let (changes, rest) = changes_from(alloc, items)?;
+    let author = Bytes::of(alloc, author)?;
+    let Some(moment) = Moment::of(moment) else {
+        return Err(ScriptFault::NotFirst);
+    };
+    let props = List::of(Vec::new(alloc));
+    Ok((
+        Commit {
+            author,
+            moment,
+            props,
+            changes,
+        },
+        rest,
+    ))
+}
+
+/// An author is a user, or nobody.
+fn is_author(name: &[u8]) -> bool
+    ensures { result ≡ is_author name.now }
+{
+    name.is_empty() || is_user_name(name)
 }
