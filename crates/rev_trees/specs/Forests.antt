@@ -9,8 +9,8 @@ use Rattle.dsv_base.specs.declared.prop.Prop.{Prop}
 use Rattle.rev_trees.specs.declared.node.Node.{Node}
 use Rattle.rev_trees.specs.Trees.{TreeNode, Tree, Revision, Repository}
 
--- a place: its node, and the node's number
-pub record Place : Type 0 where
+-- a node with its number
+pub record Numbered : Type 0 where
   pub id : ℕ
   pub here : TreeNode
 
@@ -19,7 +19,7 @@ pub record ForestRevision : Type 0 where
   pub author : List ℕ
   pub moment : ℕ
   pub props : List Prop
-  pub places : List (List ℕ × Place)
+  pub places : List (List ℕ × Numbered)
 
 pub record Forest : Type 0 where
   pub name : List ℕ
@@ -27,7 +27,7 @@ pub record Forest : Type 0 where
   pub revisions : List ForestRevision
 
 -- without the numbers
-abbrev pub tree_of : List (List ℕ × Place) → Tree
+abbrev pub tree_of : List (List ℕ × Numbered) → Tree
 tree_of places = map (λ p. (p.0, p.1.here)) places
 
 abbrev pub without_numbers : ForestRevision → Revision
@@ -37,10 +37,10 @@ abbrev pub repository_of : Forest → Repository
 repository_of forest = record { name = forest.name; uuid = forest.uuid; revisions = map without_numbers forest.revisions }
 
 -- the places of a revision, none past the youngest
-abbrev pub places_at : Forest → ℕ → List (List ℕ × Place)
+abbrev pub places_at : Forest → ℕ → List (List ℕ × Numbered)
 places_at forest rev = (slice_index_or forest.revisions rev (record { author = []; moment = 0; props = []; places = [] })).places
 
-abbrev pub place_at : Forest → ℕ → List ℕ → Option Place
+abbrev pub place_at : Forest → ℕ → List ℕ → Option Numbered
 place_at forest rev path = find (slice_cmp nat_cmp) path (places_at forest rev)
 
 -- the number of the node at a path of a revision

@@ -4,15 +4,18 @@
 mod change;
 mod commit;
 mod cursor;
+mod growth;
 mod item;
 mod kind;
 mod line;
 mod node;
 mod node_id;
 mod place;
+mod places;
 mod reader;
 mod revision;
 mod script_fault;
+mod trees;
 mod unfit;
 mod uuid;
 
@@ -20,3 +23,4 @@ pub use kind::Kind;
 pub use node::Node;
 pub use node_id::NodeId;
 pub use script_fault::ScriptFault;
+pub use trees::Trees;
