@@ -4,3 +4,4 @@ pub mod Forests
 pub mod Scripts
 pub mod Flat
 pub mod Kept
+pub mod Built

@@ -15,6 +15,7 @@ use Rattle.rev_trees.specs.declared.change.Change.TheVariants.{Put, Mkdir}
 use Rattle.rev_trees.specs.declared.commit.Commit.{Commit}
 use Rattle.rev_trees.specs.declared.item.ItemHead.{ItemHead}
 use Rattle.rev_trees.specs.declared.item.ItemHead.TheVariants as head
+use Rattle.rev_trees.specs.declared.script.Script.{Script}
 use Rattle.rev_trees.specs.declared.unfit.Unfit.{Unfit}
 use Rattle.rev_trees.specs.declared.script_fault.ScriptFault.{ScriptFault}
 use Rattle.rev_trees.specs.declared.script_fault.ScriptFault.TheVariants.{NotFirst, NoMemory}
@@ -166,19 +167,27 @@ commit_from number text = do
   changes ← changes_from (length items) items
   Ok (record { author = author.0; moment = told.0; props = []; changes = changes.0 }, changes.1)
 
+-- the script that the bytes spell: the revisions 0 and 1, of which the one has no changes, and nothing after them
+unfoldable pub script_from : List ℕ → Result Script ScriptFault
+script_from bytes = do
+  heading ← heading_from bytes
+  zeroth ← commit_from 0 heading.2
+  first ← commit_from 1 zeroth.1
+  ok_where (nat_eq (length zeroth.0.changes) 0 && nat_eq (length first.1) 0) (record { name = heading.0; uuid = heading.1; zeroth = zeroth.0; first = first.0 })
+
 abbrev pub or_unfit : {X : Type 0} → Result X (ℕ × Unfit) → Result X ScriptFault
 or_unfit (Ok x) = Ok x
 or_unfit (Err why) = Err NotFirst
 
+-- revision 0 has the root alone; revision 1 is that with the changes of its commit
+unfoldable pub repository_of_script : Script → Result Repository ScriptFault
+repository_of_script script = do
+  revisions ← or_unfit (pushed (revision_of script.zeroth first_tree ∷ []) script.first)
+  Ok (record { name = script.name; uuid = script.uuid; revisions = revisions })
+
 -- the repository that the bytes of a script tell
 unfoldable pub repository_from : List ℕ → Result Repository ScriptFault
-repository_from bytes = do
-  heading ← heading_from bytes
-  zeroth ← commit_from 0 heading.2
-  read ← commit_from 1 zeroth.1
-  first ← ok_where (nat_eq (length zeroth.0.changes) 0 && nat_eq (length read.1) 0) read.0
-  revisions ← or_unfit (pushed (revision_of zeroth.0 first_tree ∷ []) first)
-  Ok (record { name = heading.0; uuid = heading.1; revisions = revisions })
+repository_from bytes = script_from bytes >>= repository_of_script
 
 abbrev pub is_no_memory : ScriptFault → Bool
 is_no_memory NotFirst = false

@@ -1,6 +1,7 @@
 //! A repository's revisions as trees of nodes, and the script that they are read from.
 #![tactic(auto)]
 
+mod build;
 mod change;
 mod commit;
 mod cursor;
@@ -14,11 +15,13 @@ mod place;
 mod places;
 mod reader;
 mod revision;
+mod script;
 mod script_fault;
 mod trees;
 mod unfit;
 mod uuid;
 
+pub use build::read_script;
 pub use kind::Kind;
 pub use node::Node;
 pub use node_id::NodeId;

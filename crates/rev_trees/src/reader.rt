@@ -18,7 +18,8 @@ const LONGEST: u64 = 268_435_456;
 /// The name and the uuid at the head of a script, and what stands after them.
 #[tactic(auto, unfolding(crate::specs::Scripts::heading_from))]
 pub fn heading_from(text: &[u8]) -> Result<(&[u8], &[u8], &[u8]), ScriptFault>
-    ensures { GivesBy (λ x. (x.0.now, x.1.now, x.2.now)) is_no_memory result (heading_from text.now) }
+    ensures value { GivesBy (λ x. (x.0.now, x.1.now, x.2.now)) is_no_memory result (heading_from text.now) }
+    ensures shorter { IfOk result (λ x. length x.2.now ≤ length text.now) }
 {
     let named = after_front(b"davsvn-script 1\nrepos ", text)?;
     let (name, rest) = line_from(named)?;
@@ -166,7 +167,8 @@ fn path_of(alloc: Global, text: &[u8]) -> Result<Path, ScriptFault>
 
 /// The changes of a revision up to its end, and what stands after that.
 fn changes_from(alloc: Global, text: &[u8]) -> Result<(List<Change>, &[u8]), ScriptFault>
-    ensures { GivesBy (λ x. (x.0, x.1.now)) is_no_memory result (changes_from (length text.now) text.now) }
+    ensures value { GivesBy (λ x. (x.0, x.1.now)) is_no_memory result (changes_from (length text.now) text.now) }
+    ensures few { IfOk result (λ x. length x.0 + length x.1.now ≤ length text.now) }
 {
     let mut changes = Vec::new(alloc);
     let mut rest = text;
@@ -183,7 +185,8 @@ fn changes_from(alloc: Global, text: &[u8]) -> Result<(List<Change>, &[u8]), Scr
 /// The revision of this number, and what stands after it.
 #[tactic(auto, unfolding(crate::specs::Scripts::commit_from))]
 pub fn commit_from(alloc: Global, number: Rev, text: &[u8]) -> Result<(Commit, &[u8]), ScriptFault>
-    ensures { GivesBy (λ x. (x.0, x.1.now)) is_no_memory result (commit_from number text.now) }
+    ensures value { GivesBy (λ x. (x.0, x.1.now)) is_no_memory result (commit_from number text.now) }
+    ensures few { IfOk result (λ x. length x.0.changes + length x.1.now ≤ length text.now) }
 {
     let (line, rest) = line_from(text)?;
     let (moment, author_length) = revision_line(number, line)?;

@@ -43,6 +43,20 @@ impl Model for Trees {
 }
 
 impl Trees {
+    ghost use Rattle.rev_trees.specs.Kept.{forest_of, AreKept};
+
+    /// The trees of the revisions from 0 on.
+    pub(crate) fn of(name: Bytes, uuid: Bytes, revisions: Vec<FlatRevision>) -> Trees
+        requires { AreKept revisions.items }
+        ensures { result ≡ forest_of name uuid revisions.items }
+    {
+        Trees {
+            name,
+            uuid,
+            revisions,
+        }
+    }
+
     /// The repository's name.
     pub fn name(&self) -> &[u8]
         ensures { result.now ≡ self.now.name }
@@ -67,7 +81,11 @@ impl Trees {
         ensures { result ≡ id_at self.now rev path.now }
     {
         let number = rev.get();
-        number_of(number, self.revisions[number as usize].places.get(), path)
+        number_of(
+            number,
+            places_of(self.revisions.as_slice(), number as usize),
+            path,
+        )
     }
 
     /// The node of this number.
@@ -75,9 +93,25 @@ impl Trees {
         requires { IsId self.now id }
         ensures { IsNodeOf self.now id result.now }
     {
-        let revision = &self.revisions[(id.get() / SPAN) as usize];
-        &revision.places.get()[(id.get() % SPAN) as usize].node
+        &place_of(self.revisions.as_slice(), id.get()).node
     }
+}
+
+/// The places of a revision.
+fn places_of(revisions: &[FlatRevision], rev: usize) -> &[Place]
+    requires { rev < length revisions.now }
+    ensures { result.now ≡ places_in revisions.now rev }
+{
+    revisions[rev].places.get()
+}
+
+/// The place that a number names.
+fn place_of(revisions: &[FlatRevision], number: u64) -> &Place
+    requires { number % 4294967296 < length (places_in revisions.now (number / 4294967296)) }
+    ensures { (d : _) → result.now ≡ slice_index_or (places_in revisions.now (number / 4294967296)) (number % 4294967296) d }
+{
+    let revision = &revisions[(number / SPAN) as usize];
+    &revision.places.get()[(number % SPAN) as usize]
 }
 
 /// The number of the node at a path of the revision of this number.
