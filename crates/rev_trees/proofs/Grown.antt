@@ -1,18 +1,18 @@
 -- What changes of one revision do to places: only the root's mark can be older.
-use Rattle.std.proofs.Common.{◌≡◌, ℕ, zero, suc, ◌+◌, ◌<◌, ◌≤◌, Bool, true, false, ◌&&◌, ◌||◌, cond, T, nat_eq, List, [], ◌∷◌, ◌++◌, Option, None, Some, is_some, Ok, not, length, map, get_or, set, refl, sym, ap, subst, ◌∙◌, arith}
+use Rattle.std.proofs.Common.{◌≡◌, ℕ, zero, suc, ◌<◌, Bool, true, false, ◌&&◌, ◌||◌, T, nat_eq, List, [], ◌∷◌, ◌++◌, Option, Some, is_some, Ok, not, length, get_or, set, refl, sym, ap, subst, ◌∙◌, arith}
 use Rattle.std.specs.Prelude.{if◌then◌else◌, IsTrue}
 use Rattle.std.specs.List.{insert, list_all, starts_with}
 use Rattle.std.specs.Str.{bytes_eq}
-use Rattle.std.specs.Ordering.{nat_cmp, is_lt, ordering_then}
-use Rattle.std.specs.declared.cmp.Ordering.TheVariants.{Less, Equal, Greater}
+use Rattle.std.specs.Ordering.{nat_cmp, is_lt}
+use Rattle.std.specs.declared.cmp.Ordering.TheVariants.{Greater}
 use Rattle.std.specs.Cmp.Lexicographic.{slice_cmp, nat_list_cmp_total, bytes_decides}
-use Rattle.std.specs.FinMap.Entries.{is_sorted, below_all, is_sorted-put}
+use Rattle.std.specs.FinMap.Entries.{below_all, is_sorted-put}
 use Rattle.std.proofs.lemmas.Bool.Decides.{nat_tests}
 use Rattle.dsv_base.specs.Paths.{is_path, is_under, is_slash, root_text}
 use Rattle.rev_trees.specs.declared.place.Place.{Place}
 use Rattle.rev_trees.specs.declared.node.Node.{Node}
 use Rattle.rev_trees.specs.declared.kind.Kind.{Kind}
-use Rattle.rev_trees.specs.declared.kind.Kind.TheVariants.{File, Dir}
+use Rattle.rev_trees.specs.declared.kind.Kind.TheVariants.{File}
 use Rattle.rev_trees.specs.Trees.{TreeNode, Tree, at, is_file, is_dir_kind}
 use Rattle.rev_trees.specs.Changes.{mark, marked, placed, has_parent, unfit_new, with_text}
 use Rattle.rev_trees.specs.Flat.{node_of, tree_in, in_order, is_root, is_of_one_revision, root_marked, IsGrowing, IsPlaceOf, IsGapFor, Adds, Replaces}

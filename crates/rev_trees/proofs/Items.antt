@@ -1,5 +1,5 @@
 -- Changes that were read before, and those of the items that are left.
-use Rattle.std.proofs.Common.{◌≡◌, ℕ, zero, suc, ◌<◌, ◌-◌, List, [], ◌∷◌, ◌++◌, Option, None, Some, Result, Ok, Err, refl, sym, ap, ◌∙◌, append_assoc, append-nil, arith}
+use Rattle.std.proofs.Common.{◌≡◌, ℕ, zero, suc, List, [], ◌∷◌, ◌++◌, Option, None, Some, Result, Ok, Err, refl, sym, ap, ◌∙◌, append_assoc, append-nil}
 use Rattle.dsv_base.specs.Gives.{Gives, ◌>>=◌}
 use Rattle.rev_trees.specs.declared.change.Change.{Change}
 use Rattle.rev_trees.specs.declared.script_fault.ScriptFault.{ScriptFault}

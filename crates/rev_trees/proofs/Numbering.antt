@@ -1,5 +1,5 @@
 -- What the number of a place names.
-use Rattle.std.proofs.Common.{◌≡◌, ℕ, zero, suc, ◌+◌, ◌*◌, ◌/◌, ◌%◌, ◌<◌, ◌≤◌, Bool, true, false, ◌&&◌, T, cond, List, [], ◌∷◌, Option, None, Some, refl, sym, ap, subst, ◌∙◌, length, get_or, arith}
+use Rattle.std.proofs.Common.{◌≡◌, ℕ, zero, suc, ◌+◌, ◌*◌, ◌/◌, ◌%◌, ◌<◌, true, false, ◌&&◌, T, cond, List, [], ◌∷◌, Option, None, Some, refl, sym, ap, subst, ◌∙◌, length, get_or, arith}
 use Rattle.std.specs.Option.{option_map}
 use Rattle.std.specs.Cmp.Lexicographic.{slice_cmp, nat_list_cmp_total}
 use Rattle.std.specs.Ordering.{nat_cmp, eq_by_cmp, is_lt}
@@ -11,10 +11,10 @@ use Rattle.rev_trees.proofs.Search.{find_here}
 use Rattle.rev_trees.proofs.PlacesFound.{nowhere}
 use Rattle.rev_trees.specs.declared.place.Place.{Place}
 use Rattle.rev_trees.specs.declared.revision.FlatRevision.{FlatRevision}
-use Rattle.rev_trees.specs.Trees.{TreeNode, Tree, at}
+use Rattle.rev_trees.specs.Trees.{TreeNode, at}
 use Rattle.rev_trees.specs.Forests.{Numbered, ForestRevision, Forest, places_at, place_at, id_at, node_at, IsId, IsNodeOf}
 use Rattle.rev_trees.specs.Flat.{node_of, tree_in, in_order, IsPlaceOf, IsGapFor}
-use Rattle.rev_trees.specs.Kept.{numbered_from, numbered_revision, revisions_from, forest_of, places_in, AreKept}
+use Rattle.rev_trees.specs.Kept.{numbered_from, revisions_from, forest_of, places_in, AreKept}
 
 abbrev empty : FlatRevision
 empty = record { author = []; moment = 0; props = []; places = [] }

@@ -1,17 +1,16 @@
 -- What a search among places in order finds.
-use Rattle.std.proofs.Common.{◌≡◌, ℕ, zero, suc, ◌+◌, ◌<◌, ◌≤◌, T, List, [], ◌∷◌, Option, None, Some, Result, Ok, Err, IfOk, IfErr, length, map, get_or, set, refl, sym, ap, subst, ◌∙◌, inl, inr, arith}
+use Rattle.std.proofs.Common.{◌≡◌, ℕ, zero, suc, ◌<◌, ◌≤◌, T, List, [], ◌∷◌, None, Some, Result, Ok, Err, IfOk, IfErr, length, get_or, set, refl, sym, ap, ◌∙◌, inl, inr, arith}
 use Rattle.std.proofs.lemmas.Bool.{cases_lt}
 use Rattle.std.specs.List.{insert}
 use Rattle.std.specs.List.Sorted.{IsSearchInRange, IsBinarySearchResult, IsNonDecreasingBy}
 use Rattle.std.specs.Ordering.{nat_cmp, ordering_index}
-use Rattle.std.specs.declared.cmp.Ordering.TheVariants.{Less, Equal, Greater}
+use Rattle.std.specs.declared.cmp.Ordering.TheVariants.{Equal}
 use Rattle.std.specs.Cmp.Lexicographic.{slice_cmp, nat_list_cmp_total}
 use Rattle.std.proofs.lemmas.Map.Lookups.{exact_bytes}
 use Rattle.std.proofs.lemmas.List.Sorted.{IsNonDecreasingBy-from_default}
 use Rattle.rev_trees.specs.declared.place.Place.{Place}
 use Rattle.rev_trees.specs.declared.kind.Kind.TheVariants.{Dir}
-use Rattle.rev_trees.specs.Trees.{TreeNode, Tree, at}
-use Rattle.rev_trees.specs.Changes.{placed}
+use Rattle.rev_trees.specs.Trees.{TreeNode}
 use Rattle.rev_trees.specs.Flat.{node_of, tree_in, in_order, IsPlaceOf, IsGapFor}
 use Rattle.rev_trees.proofs.Search.{find_here, put_here, IsGap, find_gap, put_gap, comparisons_rise}
 

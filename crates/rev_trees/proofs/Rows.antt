@@ -1,19 +1,17 @@
 -- The worked repository, computed.
-use Rattle.std.proofs.Common.{◌≡◌, ℕ, List, [], ◌∷◌, ◌++◌, None, Result, Ok, Err, refl}
+use Rattle.std.proofs.Common.{◌≡◌, ℕ, List, [], ◌∷◌, ◌++◌, Ok, Err, refl}
 use Rattle.std.specs.Prelude.{codes}
 use Rattle.std.specs.Str.{is_utf8, chars}
 use Rattle.std.proofs.Math.Utf8.{encode}
-use Rattle.dsv_base.specs.Lines.{lines_of}
 use Rattle.dsv_base.specs.Names.{is_repository_name, is_user_name}
 use Rattle.dsv_base.specs.Numbers.{decimal}
 use Rattle.dsv_base.specs.Paths.{is_path, is_under, parent_text}
 use Rattle.rev_trees.specs.declared.change.Change.{Change}
 use Rattle.rev_trees.specs.declared.change.Change.TheVariants.{Put, Mkdir}
 use Rattle.rev_trees.specs.declared.unfit.Unfit.TheVariants.{NoParent, Exists}
-use Rattle.rev_trees.specs.declared.script_fault.ScriptFault.TheVariants.{NotFirst}
-use Rattle.rev_trees.specs.Trees.{Tree, TreeNode, Repository, first_tree, new_dir, new_file}
-use Rattle.rev_trees.specs.Changes.{unfit, apply, apply_from, pushed}
-use Rattle.rev_trees.specs.Scripts.{is_uuid, heading_from, revision_line, item_line, item_from, changes_from, commit_from, repository_from}
+use Rattle.rev_trees.specs.Trees.{Tree, TreeNode, first_tree, new_dir, new_file}
+use Rattle.rev_trees.specs.Changes.{unfit, apply, apply_from}
+use Rattle.rev_trees.specs.Scripts.{is_uuid, heading_from, revision_line, item_line, item_from, changes_from, commit_from}
 
 abbrev changes_1 : List Change
 changes_1 = Mkdir (codes "/pub") ∷ Put (codes "/pub/a") (codes "abc") ∷ Mkdir (codes "/sec") ∷ Put (codes "/sec/k") (codes "key") ∷ []

@@ -1,9 +1,9 @@
 -- One change after another, as the places do them.
-use Rattle.std.proofs.Common.{◌≡◌, ℕ, zero, suc, ◌+◌, ◌<◌, ◌≤◌, Bool, true, false, cond, T, List, [], ◌∷◌, Option, None, Some, is_some, Result, Ok, Err, length, refl, sym, ap, subst, ◌∙◌, arith}
+use Rattle.std.proofs.Common.{◌≡◌, ℕ, suc, ◌+◌, ◌≤◌, Bool, true, false, cond, T, List, [], ◌∷◌, Option, None, Some, is_some, Result, Ok, Err, length, refl, sym, ap, subst, ◌∙◌, arith}
 use Rattle.std.specs.Prelude.{IsTrue}
 use Rattle.std.specs.Ordering.{nat_cmp}
 use Rattle.std.specs.Cmp.Lexicographic.{slice_cmp, nat_list_cmp_total}
-use Rattle.std.specs.FinMap.Entries.{find, put, length-put}
+use Rattle.std.specs.FinMap.Entries.{find, length-put}
 use Rattle.rev_trees.specs.declared.change.Change.{Change}
 use Rattle.rev_trees.specs.declared.change.Change.TheVariants.{Put, Mkdir}
 use Rattle.rev_trees.specs.declared.place.Place.{Place}
@@ -11,7 +11,7 @@ use Rattle.rev_trees.specs.declared.unfit.Unfit.{Unfit}
 use Rattle.rev_trees.specs.declared.script_fault.ScriptFault.{ScriptFault}
 use Rattle.rev_trees.specs.declared.script_fault.ScriptFault.TheVariants.{NotFirst, NoMemory}
 use Rattle.rev_trees.specs.Trees.{TreeNode, Tree, at, new_dir}
-use Rattle.rev_trees.specs.Changes.{unfit, apply, apply_from, unless, mark, marked, placed, with_text}
+use Rattle.rev_trees.specs.Changes.{unfit, apply, apply_from, unless, marked, placed, with_text}
 use Rattle.rev_trees.specs.Scripts.{or_unfit}
 use Rattle.rev_trees.specs.Flat.{tree_in, in_order, IsGrowing, Applies, Grows}
 use Rattle.rev_trees.proofs.PlacesFound.{length-tree_in}

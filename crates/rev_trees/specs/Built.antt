@@ -1,5 +1,5 @@
 -- What is built from a script.
-use Rattle.std.specs.Prelude.{ℕ, ◌≡◌, ◌+◌, ◌≤◌, Result, Ok, Err, List, [], ◌∷◌, None, length, ⊤}
+use Rattle.std.specs.Prelude.{ℕ, ◌≡◌, ◌+◌, ◌≤◌, Result, Ok, Err, List, [], None, length, ⊤}
 use Rattle.dsv_base.specs.Paths.{root_text}
 use Rattle.rev_trees.specs.declared.kind.Kind.TheVariants.{Dir}
 use Rattle.rev_trees.specs.declared.commit.Commit.{Commit}

@@ -1,5 +1,5 @@
 -- How a tree is kept as places in order.
-use Rattle.std.specs.Prelude.{ℕ, ◌≡◌, ◌≤◌, ◌<◌, ◌+◌, ◌*◌, Bool, false, ◌&&◌, List, [], ◌∷◌, None, Some, Result, Ok, Err, length, map, slice_index_or, slice_set, insert, is_some, nat_eq, IsTrue, ⊤}
+use Rattle.std.specs.Prelude.{ℕ, ◌≡◌, ◌≤◌, ◌<◌, Bool, false, ◌&&◌, List, [], ◌∷◌, None, Some, Result, Ok, Err, length, map, slice_index_or, slice_set, insert, is_some, nat_eq, IsTrue, ⊤}
 use Rattle.std.specs.List.{list_all}
 use Rattle.std.specs.Str.{bytes_eq}
 use Rattle.std.specs.FinMap.{is_sorted}

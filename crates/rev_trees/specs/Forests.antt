@@ -1,6 +1,6 @@
 -- The trees of a repository as they are read: each place has a number beside its node. One number
 -- may stand at many places, which then are alike.
-use Rattle.std.specs.Prelude.{ℕ, ◌≡◌, List, [], Option, Some, map, slice_index_or, length}
+use Rattle.std.specs.Prelude.{ℕ, ◌≡◌, List, [], Option, Some, map, slice_index_or}
 use Rattle.std.specs.Option.{option_map}
 use Rattle.std.specs.FinMap.{find}
 use Rattle.std.specs.Ordering.{nat_cmp}

@@ -1,6 +1,6 @@
 -- How a repository is kept: its revisions as flat lists of places, of which each has the number of
 -- its revision and of where it stands there.
-use Rattle.std.specs.Prelude.{ℕ, ◌≡◌, ◌+◌, ◌*◌, ◌<◌, ◌≤◌, Result, Ok, Err, List, [], ◌∷◌, length, slice_index_or, IsTrue, ⊤}
+use Rattle.std.specs.Prelude.{ℕ, ◌+◌, ◌*◌, ◌≤◌, List, [], ◌∷◌, length, slice_index_or, IsTrue}
 use Rattle.rev_trees.specs.declared.place.Place.{Place}
 use Rattle.rev_trees.specs.declared.revision.FlatRevision.{FlatRevision}
 use Rattle.rev_trees.specs.Forests.{Numbered, ForestRevision, Forest}

@@ -19,7 +19,7 @@ use Rattle.rev_trees.specs.declared.script.Script.{Script}
 use Rattle.rev_trees.specs.declared.unfit.Unfit.{Unfit}
 use Rattle.rev_trees.specs.declared.script_fault.ScriptFault.{ScriptFault}
 use Rattle.rev_trees.specs.declared.script_fault.ScriptFault.TheVariants.{NotFirst, NoMemory}
-use Rattle.rev_trees.specs.Trees.{Revision, Repository, first_tree}
+use Rattle.rev_trees.specs.Trees.{Repository, first_tree}
 use Rattle.rev_trees.specs.Changes.{revision_of, pushed}
 
 abbrev pub or_not_first : {X : Type 0} → Option X → Result X ScriptFault

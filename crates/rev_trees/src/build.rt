@@ -15,7 +15,7 @@ use crate::revision::FlatRevision;
 use crate::script::Script;
 use crate::script_fault::ScriptFault;
 use crate::trees::Trees;
-use dsv_base::{Bytes, List, Path, Rev};
+use dsv_base::{Bytes, List, NoMemory, Path, Rev};
 use std::alloc::Global;
 
 /// The repository that a script tells.
@@ -80,16 +80,28 @@ fn trees_of(alloc: Global, script: Script) -> Result<Trees, ScriptFault>
         zeroth,
         first,
     } = script;
-    let mut revisions = Vec::new(alloc);
-    revisions.push(zeroth_revision(alloc, zeroth)?)?;
-    revisions.push(first_revision(alloc, first)?)?;
+    let zeroth = zeroth_revision(alloc, zeroth)?;
+    let first = first_revision(alloc, first)?;
+    let revisions = both(alloc, zeroth, first)?;
     Ok(Trees::of(name, uuid, revisions))
 }
 
+fn both(
+    alloc: Global,
+    zeroth: FlatRevision,
+    first: FlatRevision,
+) -> Result<Vec<FlatRevision>, NoMemory>
+    ensures { IfOk result (λ both. both.items ≡ zeroth ∷ first ∷ []) }
+{
+    let mut both = Vec::new(alloc);
+    both.push(zeroth)?;
+    both.push(first)?;
+    Ok(both)
+}
+
 /// Revision 0: the root alone.
-fn zeroth_revision(alloc: Global, commit: Commit) -> Result<FlatRevision, ScriptFault>
-    ensures value { IfOk result (λ r. r ≡ revision_with commit (root_place ∷ [])) }
-    ensures free { result ≡ Err ScriptFault.NotFirst → ⊥ }
+fn zeroth_revision(alloc: Global, commit: Commit) -> Result<FlatRevision, NoMemory>
+    ensures { IfOk result (λ r. r ≡ revision_with commit (root_place ∷ [])) }
 {
     let places = root_places(alloc)?;
     Ok(revision_of(commit, places))
@@ -127,9 +139,8 @@ fn revision_of(commit: Commit, places: Vec<Place>) -> FlatRevision
 }
 
 /// The places of revision 0.
-fn root_places(alloc: Global) -> Result<Vec<Place>, ScriptFault>
-    ensures value { IfOk result (λ places. places.items ≡ root_place ∷ []) }
-    ensures free { result ≡ Err ScriptFault.NotFirst → ⊥ }
+fn root_places(alloc: Global) -> Result<Vec<Place>, NoMemory>
+    ensures { IfOk result (λ places. places.items ≡ root_place ∷ []) }
 {
     let root = Place {
         path: Path::root(alloc)?,

@@ -1,5 +1,4 @@
 use Rattle.std.proofs.Common.{◌∙◌, ap, sym}
-use Rattle.std.specs.List.{insert}
 use Rattle.rev_trees.specs.Flat.{root_marked}
 use Rattle.rev_trees.proofs.Grown.{added}
 use Rattle.rev_trees.proofs.growth.add_at.Goals as goal

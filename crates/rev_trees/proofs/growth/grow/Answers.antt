@@ -1,12 +1,7 @@
-use Rattle.std.proofs.Common.{◌≡◌, ◌≤◌, ◌+◌, List, [], length, suc, sym, ap, ◌∙◌, arith}
+use Rattle.std.proofs.Common.{◌≡◌, ◌≤◌, ◌+◌, length, suc, sym, ap, ◌∙◌, arith}
 use Rattle.std.proofs.lemmas.Result.{err_from_is_err_and}
-use Rattle.std.specs.Vec.Iter.{into_iter_items, into_iter_len}
-use Rattle.rev_trees.specs.declared.change.Change.{Change}
-use Rattle.rev_trees.specs.Trees.{Tree}
-use Rattle.rev_trees.specs.Changes.{apply_from}
-use Rattle.rev_trees.specs.Scripts.{or_unfit}
-use Rattle.rev_trees.specs.Flat.{tree_in}
-use Rattle.rev_trees.proofs.Turns.{one_done, none_done, ok_from, nothing_left, fails, one_place}
+use Rattle.std.specs.Vec.Iter.{into_iter_items}
+use Rattle.rev_trees.proofs.Turns.{one_done, ok_from, nothing_left, fails, one_place}
 use Rattle.rev_trees.proofs.growth.grow.Goals as goal
 
 pub changes-preserved : goal.changes-preserved

@@ -1,7 +1,6 @@
-use Rattle.std.proofs.Common.{ℕ, ◌≡◌, ◌-◌, suc, length, vec_len, arith, sym, ap}
+use Rattle.std.proofs.Common.{◌≡◌, ◌-◌, suc, length, vec_len, arith}
 use Rattle.std.proofs.lemmas.Result.{err_from_is_err_and}
-use Rattle.rev_trees.specs.Scripts.{changes_from}
-use Rattle.rev_trees.proofs.Items.{with_front, all_read, one_read, none_read}
+use Rattle.rev_trees.proofs.Items.{all_read, one_read, none_read}
 use Rattle.rev_trees.proofs.reader.changes_from.Goals as goal
 
 pub returns-in_err-item-clause-value : goal.returns-in_err-item-clause-value

@@ -1,4 +1,4 @@
-use Rattle.std.proofs.Common.{◌≡◌, ◌∙◌}
+use Rattle.std.proofs.Common.{◌∙◌}
 use Rattle.rev_trees.proofs.Numbering.{places_in-or}
 use Rattle.rev_trees.proofs.trees.places_of.Goals as goal
 

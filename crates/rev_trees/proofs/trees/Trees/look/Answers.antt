@@ -1,4 +1,3 @@
-use Rattle.std.proofs.Common.{◌≡◌, ◌<◌, length, sym, ◌∙◌}
 use Rattle.rev_trees.proofs.Numbering.{look-of, length-of}
 use Rattle.rev_trees.proofs.trees.Trees.look.Goals as goal
 

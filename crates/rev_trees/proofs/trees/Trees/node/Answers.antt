@@ -1,4 +1,3 @@
-use Rattle.std.proofs.Common.{sym}
 use Rattle.rev_trees.proofs.Numbering.{below-of, node-of}
 use Rattle.rev_trees.proofs.trees.Trees.node.Goals as goal
 
