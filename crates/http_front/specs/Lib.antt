@@ -1,0 +1,4 @@
+pub mod UsersFile
+pub mod Messages
+pub mod Answers
+pub mod Spans

@@ -1,0 +1,23 @@
+-- What the offsets of a head that was read say.
+use Rattle.std.specs.Prelude.{ℕ, false, List, [], map, take}
+use Rattle.httparse.specs.Spans.{span_bytes}
+use Rattle.httparse.specs.declared.spans.HeaderSpan.{HeaderSpan}
+use Rattle.httparse.specs.declared.spans.RequestSpans.{RequestSpans}
+use Rattle.dsv_base.specs.declared.field.Field.{Field}
+use Rattle.http_front.specs.declared.login.Login.TheVariants.{Nobody}
+use Rattle.http_front.specs.declared.request.Request.{Request}
+
+-- the field that a header line's offsets cover
+abbrev pub field_at : List ℕ → HeaderSpan → Field
+field_at bytes span = record { name = span_bytes bytes span.name; value = span_bytes bytes span.value }
+
+-- the request in the first form whose parts the offsets cover
+abbrev pub request_at : List ℕ → List HeaderSpan → RequestSpans → Request
+request_at bytes headers head = record {
+  method = span_bytes bytes head.method;
+  target = span_bytes bytes head.path;
+  fields = map (field_at bytes) (take head.headers headers);
+  login = Nobody;
+  body = [];
+  last = false;
+}

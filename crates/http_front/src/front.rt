@@ -1,0 +1,72 @@
+ghost use Rattle.std.specs.Prelude.{◌≡◌, ◌++◌, [], OnOk, OnErr};
+ghost use Rattle.http_front.specs.Messages.{IsFirstMessage, IsOpenHead, IsNeverFirst};
+ghost use Rattle.http_front.specs.Answers.{IfRequest, UnlessRequest, OnMore, OnNotFirst, GivesFirst};
+
+use crate::message::read_message;
+use crate::next::Next;
+use crate::users::Users;
+use dsv_base::NoMemory;
+use std::alloc::Global;
+use std::marker::Model;
+
+/// The bytes of a connection, which come in pieces, on their way to requests. Contracts see it as
+/// the list of the bytes that were fed and not yet given out.
+#[derive(Debug, Drop)]
+pub struct Front {
+    alloc: Global,
+    bytes: Vec<u8>,
+}
+
+impl Model for Front {
+    ghost use Rattle.std.specs.Prelude.{List, ℕ};
+
+    ghost Value = { List ℕ };
+
+    ghost view = { λ f. f.bytes.items };
+}
+
+impl Front {
+    /// A front that was fed nothing. It takes no memory.
+    pub fn new(alloc: Global) -> Front
+        ensures { result ≡ [] }
+    {
+        Front {
+            alloc,
+            bytes: Vec::new(alloc),
+        }
+    }
+
+    /// Adds a piece at the end. Its one error is want of memory, and leaves the front as it was.
+    pub fn feed(&mut self, piece: &[u8]) -> Result<(), NoMemory>
+        ensures ok { OnOk result (self.new ≡ self.old ++ piece.now) }
+        ensures err { OnErr result (self.new ≡ self.old) }
+    {
+        self.bytes.extend_from_slice(piece)?;
+        Ok(())
+    }
+
+    /// The request at the front, or what its bytes are else.
+    ///
+    /// As yet a request is in the first form: one head of HTTP/1.1 in at most 16,384 bytes with at
+    /// most 100 header lines, no line end before it and nothing after it, and no field
+    /// Authorization, Content-Length, Transfer-Encoding or Connection. Its method and target may
+    /// be any. It is taken out of the front; every other answer leaves the front as it was.
+    ///
+    /// [`Next::NotFirst`] comes only where no bytes that may follow make it a request in the first
+    /// form. [`Next::More`] comes only where a head isn't whole, has fewer than 16,384 bytes, and
+    /// may become one of the grammar: its target, version and fields are judged when it is whole.
+    pub fn next(&mut self, _users: &Users) -> Next
+        ensures request { IfRequest result (IsFirstMessage self.old) }
+        ensures first { GivesFirst self.old result }
+        ensures more { OnMore result (IsOpenHead self.old) }
+        ensures not_first { OnNotFirst result (IsNeverFirst self.old) }
+        ensures taken { IfRequest result (λ r. self.new ≡ []) }
+        ensures kept { UnlessRequest result (self.new ≡ self.old) }
+    {
+        let next = read_message(self.alloc, self.bytes.as_slice());
+        if let Next::Request(_) = &next {
+            self.bytes.clear();
+        }
+        next
+    }
+}

@@ -1,0 +1,22 @@
+//! HTTP/1.1 requests from bytes that come piece by piece, and the users file.
+#![tactic(auto)]
+
+mod front;
+mod login;
+mod message;
+mod next;
+mod request;
+mod user;
+mod users;
+mod users_fault;
+
+pub use dsv_base::{Field, Person};
+pub use front::Front;
+pub use login::Login;
+pub use next::Next;
+pub use request::Request;
+pub use users::{Users, read_users};
+pub use users_fault::UsersFault;
+
+#[cfg(test)]
+mod tests;
