@@ -1,0 +1,9 @@
+pub mod Causes
+pub mod Calls
+pub mod Sources
+pub mod SourceStates
+pub mod Sinks
+pub mod SinkStates
+pub mod FileTables
+pub mod Reads
+pub mod FileStates
