@@ -1,0 +1,92 @@
+-- Small lists of rules, and what the definition says of them.
+use Rattle.std.proofs.Common.{◌≡◌, ℕ, Bool, true, false, List, [], ◌∷◌, ◌++◌, map, Option, None, Some, refl}
+use Rattle.std.specs.Prelude.{codes}
+use Rattle.dsv_base.specs.Paths.{ancestors, parent_text}
+use Rattle.davsvn.specs.declared.base.Base.{Base}
+use Rattle.davsvn.specs.declared.base.Base.TheVariants.{All, LoggedIn, Anonymous, Named}
+use Rattle.davsvn.specs.declared.right.Right.{Right}
+use Rattle.davsvn.specs.declared.right.Right.TheVariants.{No, Read, Write}
+use Rattle.davsvn.specs.declared.rule.Rule.{Rule}
+use Rattle.davsvn.specs.Access.{access, can_read}
+
+-- lines of a section of every repository, and of one that names a repository
+abbrev line : List ℕ → Base → Right → Rule
+line path base right = record { repos = None; path = path; negated = false; base = base; right = right }
+
+abbrev not_line : List ℕ → Base → Right → Rule
+not_line path base right = record { repos = None; path = path; negated = true; base = base; right = right }
+
+abbrev line_of : List ℕ → List ℕ → Base → Right → Rule
+line_of name path base right = record { repos = Some name; path = path; negated = false; base = base; right = right }
+
+abbrev alice : List ℕ
+alice = codes "alice"
+
+abbrev bob : List ℕ
+bob = codes "bob"
+
+abbrev only : List ℕ → Base
+only name = Named (name ∷ [])
+
+-- the users who are asked about: nobody, alice and bob
+abbrev users : List (Option (List ℕ))
+users = None ∷ Some alice ∷ Some bob ∷ []
+
+abbrev rights_at : List Rule → List ℕ → List ℕ → List Right
+rights_at rules name path = map (λ user. access rules name user path) users
+
+-- `[/]` `* = r`, `[/sec]` `* =`: what a path below doesn't say, a path above does
+abbrev open_but_sec : List Rule
+open_but_sec = line (codes "/") All Read ∷ line (codes "/sec") All No ∷ []
+
+nobody_reads : map (λ path. can_read open_but_sec (codes "demo") None path) (codes "/" ∷ codes "/pub/a" ∷ codes "/security" ∷ codes "/sec" ∷ codes "/sec/k" ∷ codes "/sec/k/l" ∷ []) ≡ true ∷ true ∷ true ∷ false ∷ false ∷ false ∷ []
+unfolding can_read access ancestors parent_text
+nobody_reads = refl
+
+no_rules : rights_at [] (codes "demo") (codes "/a") ≡ No ∷ No ∷ No ∷ []
+unfolding access ancestors parent_text
+no_rules = refl
+
+-- the section with the repository's name comes before the plain one of the same path, and after
+-- those of paths below; another repository's name says nothing
+name_first : map (λ name. rights_at (line (codes "/a") All Read ∷ line_of (codes "demo") (codes "/a") (only alice) No ∷ line (codes "/a/b") All Write ∷ line_of (codes "demo") (codes "/") All Write ∷ []) name (codes "/a")) (codes "demo" ∷ codes "dem" ∷ []) ≡ (Read ∷ No ∷ Read ∷ []) ∷ (Read ∷ Read ∷ Read ∷ []) ∷ []
+unfolding access ancestors parent_text
+name_first = refl
+
+plain_below : rights_at (line_of (codes "demo") (codes "/") All Write ∷ line (codes "/a") All No ∷ []) (codes "demo") (codes "/a/b") ≡ No ∷ No ∷ No ∷ []
+unfolding access ancestors parent_text
+plain_below = refl
+
+-- within one section the greatest right counts, wherever its line stands
+union : rights_at (line (codes "/") (only alice) Write ∷ line (codes "/") All Read ∷ line (codes "/") (only alice) No ∷ line (codes "/") (only bob) No ∷ []) (codes "demo") (codes "/a") ≡ Read ∷ Write ∷ Read ∷ []
+unfolding access ancestors parent_text
+union = refl
+
+-- a section whose lines speak of others decides nothing
+goes_on : rights_at (line (codes "/") All Read ∷ line (codes "/sec") (only alice) Write ∷ []) (codes "demo") (codes "/sec/k") ≡ Read ∷ Write ∷ Read ∷ []
+unfolding access ancestors parent_text
+goes_on = refl
+
+-- a section without any right decides
+shut : rights_at (line (codes "/") All Write ∷ line (codes "/sec") (only alice) No ∷ []) (codes "demo") (codes "/sec") ≡ Write ∷ No ∷ Write ∷ []
+unfolding access ancestors parent_text
+shut = refl
+
+-- whom the principals stand for, and with `~` before them
+principals : map (λ base. rights_at (line (codes "/") base Read ∷ []) (codes "demo") (codes "/")) (All ∷ LoggedIn ∷ Anonymous ∷ only alice ∷ Named (bob ∷ alice ∷ []) ∷ Named [] ∷ [])
+    ≡ (Read ∷ Read ∷ Read ∷ []) ∷ (No ∷ Read ∷ Read ∷ []) ∷ (Read ∷ No ∷ No ∷ []) ∷ (No ∷ Read ∷ No ∷ []) ∷ (No ∷ Read ∷ Read ∷ []) ∷ (No ∷ No ∷ No ∷ []) ∷ []
+unfolding access ancestors parent_text
+principals = refl
+
+negated : map (λ base. rights_at (not_line (codes "/") base Read ∷ []) (codes "demo") (codes "/")) (All ∷ LoggedIn ∷ Anonymous ∷ only alice ∷ Named [] ∷ [])
+    ≡ (No ∷ No ∷ No ∷ []) ∷ (Read ∷ No ∷ No ∷ []) ∷ (No ∷ Read ∷ Read ∷ []) ∷ (Read ∷ No ∷ Read ∷ []) ∷ (Read ∷ Read ∷ Read ∷ []) ∷ []
+unfolding access ancestors parent_text
+negated = refl
+
+-- a closed folder in which another is open to one user
+abbrev with_open : List Rule
+with_open = line (codes "/") All Read ∷ line (codes "/") (only alice) Write ∷ line (codes "/sec") All No ∷ line (codes "/sec") (only alice) Write ∷ line (codes "/sec/open") (only bob) Read ∷ []
+
+opened : map (rights_at with_open (codes "demo")) (codes "/" ∷ codes "/sec" ∷ codes "/sec/open/x" ∷ []) ≡ (Read ∷ Write ∷ Read ∷ []) ∷ (No ∷ Write ∷ No ∷ []) ∷ (No ∷ Write ∷ Read ∷ []) ∷ []
+unfolding access ancestors parent_text
+opened = refl

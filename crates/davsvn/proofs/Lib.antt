@@ -1,0 +1,7 @@
+mod AccessGroups
+mod AccessRows
+mod AccessWalk
+mod RulesFront
+mod RulesOnce
+mod RulesRows
+mod Shown

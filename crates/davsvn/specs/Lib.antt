@@ -1,0 +1,10 @@
+pub mod Access
+pub mod Rules
+pub mod AdapterStates
+pub mod States
+pub mod Views
+pub mod Targets
+pub mod Refusals
+pub mod Replies
+pub mod ReadReplies
+pub mod Answers

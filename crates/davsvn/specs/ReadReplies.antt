@@ -1,0 +1,61 @@
+-- The reply to a reading request, as a function of what the user may see: nothing else is among its
+-- arguments, so that two states which show a user the same answer him alike.
+use Rattle.std.specs.Prelude.{ℕ, Bool, List, Option, None, Some, Result, Ok, Err, codes, if◌then◌else◌}
+use Rattle.std.specs.Option.{option_and_then}
+use Rattle.std.specs.Str.{bytes_eq}
+use Rattle.dsv_base.specs.Gives.{◌>>=◌}
+use Rattle.http_front.specs.declared.login.Login.{Login}
+use Rattle.http_front.specs.declared.login.Login.TheVariants.{Nobody, User, Wrong}
+use Rattle.http_front.specs.declared.request.Request.{Request}
+use Rattle.rev_trees.specs.declared.kind.Kind.{Kind}
+use Rattle.rev_trees.specs.declared.kind.Kind.TheVariants.{File, Dir}
+use Rattle.rev_trees.specs.Trees.{TreeNode}
+use Rattle.davsvn.specs.declared.refusal.Refusal.{Refusal}
+use Rattle.davsvn.specs.declared.refusal.Refusal.TheVariants.{NeedsLogin, Denied, NoNode}
+use Rattle.davsvn.specs.declared.reply.Reply.{Reply}
+use Rattle.davsvn.specs.declared.resource.Resource.{Resource}
+use Rattle.davsvn.specs.declared.resource.Resource.TheVariants.{Rvr}
+use Rattle.davsvn.specs.Access.{can_read}
+use Rattle.davsvn.specs.Views.{View, node_in}
+use Rattle.davsvn.specs.Targets.{resource_of}
+use Rattle.davsvn.specs.Replies.{refusal_reply, file_reply}
+
+-- the name of who is logged in
+abbrev pub user_of : Login → Option (List ℕ)
+user_of Nobody = None
+user_of (User person) = Some person.name
+user_of Wrong = None
+
+abbrev pub denied : Option (List ℕ) → Refusal
+denied None = NeedsLogin
+denied (Some name) = Denied
+
+-- the rule is tested before the tree is looked at
+abbrev pub by_rule : View → Option (List ℕ) → List ℕ → Result (List ℕ) Refusal
+by_rule view user path = if can_read view.rules view.name user path then Ok path else Err (denied user)
+
+abbrev pub or_no_node : Option TreeNode → Result TreeNode Refusal
+or_no_node None = Err NoNode
+or_no_node (Some found) = Ok found
+
+-- the node that a GET shows, or the first refusal that holds: rule, then node
+unfoldable pub node_shown : View → Option (List ℕ) → Resource → Result TreeNode Refusal
+node_shown view user (Rvr rev path) = do
+  readable ← by_rule view user path
+  or_no_node (node_in view rev readable)
+
+-- a file's text; as yet a directory isn't listed
+abbrev pub kind_reply : Kind → List ℕ → Option Reply
+kind_reply File text = Some (file_reply text)
+kind_reply Dir text = None
+
+abbrev pub get_reply : Result TreeNode Refusal → Option Reply
+get_reply (Ok found) = kind_reply found.node.kind found.node.text
+get_reply (Err refusal) = Some (refusal_reply refusal)
+
+-- the reply to a request, where it is one that is answered as yet: a GET of no readable directory
+unfoldable pub read_reply : View → Option (List ℕ) → Request → Option Reply
+read_reply view user request =
+    if bytes_eq request.method (codes "GET")
+    then option_and_then (λ resource. get_reply (node_shown view user resource)) (resource_of view.name request.target)
+    else None

@@ -1,0 +1,13 @@
+use dsv_base::{Bytes, Field, List};
+
+/// A reply to a request (RFC 9110, section 3.4), before it is written.
+#[derive(Debug, Drop)]
+pub struct Reply {
+    /// The status code.
+    pub status: u16,
+    /// The fields in their order, without Content-Length and Connection, which are told by the rest.
+    pub fields: List<Field>,
+    pub content: Bytes,
+    /// Whether the reply has content: the text of an empty file is content too.
+    pub has_content: bool,
+}
