@@ -5,3 +5,5 @@ mod RulesFront
 mod RulesOnce
 mod RulesRows
 mod Shown
+mod TooLong
+mod RunLemmas

@@ -8,3 +8,8 @@ pub mod Refusals
 pub mod Replies
 pub mod ReadReplies
 pub mod Answers
+pub mod Commands
+pub mod Opening
+pub mod Inputs
+pub mod Runs
+pub mod Statuses

@@ -1,11 +1,18 @@
-//! davsvn.
+//! davsvn: Subversion's HTTP server as a proved program. As yet it answers one GET.
 #![tactic(auto)]
 
 mod access;
 mod answer;
 mod base;
 mod disk_files;
+mod end;
+mod file_read;
+mod filled;
+mod opening;
+mod pipe;
 mod reading;
+mod receive;
+mod received;
 mod refusal;
 mod refusals;
 mod reply;
@@ -16,7 +23,41 @@ mod rule;
 mod rules;
 mod rules_fault;
 mod rules_reader;
+mod run;
+mod status;
 mod target;
+mod words;
+mod world;
 mod writing;
 
-fn main() {}
+use crate::disk_files::DiskFiles;
+use crate::reading::Reading;
+use crate::run::run;
+use crate::world::World;
+use crate::writing::Writing;
+use dsv_base::Bytes;
+use std::process::ExitCode;
+use std::{env, io};
+
+/// The words of the command line without the program's name.
+fn command_words(rt: &HostRuntime) -> io::Result<Vec<Bytes>> {
+    let mut words = Vec::new(rt.alloc());
+    let mut args = env::args(rt)?;
+    let _ = args.next();
+    for word in args {
+        words.push(Bytes::from_vec(word.into_bytes()))?;
+    }
+    Ok(words)
+}
+
+fn main(rt: HostRuntime) -> io::Result<ExitCode> {
+    let words = command_words(&rt)?;
+    let world = World {
+        source: Reading::new(rt.stdin()),
+        sink: Writing::new(rt.stdout()),
+        errors: Writing::new(rt.stderr()),
+        files: DiskFiles::new(rt.clone()?),
+    };
+    let (status, _world) = run(rt.alloc(), words.as_slice(), world);
+    Ok(ExitCode::from(status.0))
+}

@@ -1,0 +1,18 @@
+use Rattle.std.proofs.Common.{◌≡◌, ℕ, List, None, sym, subst}
+use Rattle.std.proofs.KnownBytes.{Keeps-refl}
+use Rattle.http_front.specs.declared.request.Request.{Request}
+use Rattle.http_front.proofs.FirstMessages.{first_message_unique}
+use Rattle.rev_trees.specs.Forests.{repository_of}
+use Rattle.davsvn.specs.Runs.{reply_to}
+use Rattle.davsvn.proofs.pipe.serve.Goals as goal
+
+pub returns-in-NotFirst : goal.returns-in-NotFirst
+returns-in-NotFirst g c =
+    let b = c.in-NotFirst.ensures.bytes in
+    (b.0, b.1, λ r message. absurd (b.2 r message), Keeps-refl _)
+
+pub returns-in-NotFirst-read_reply : goal.returns-in-NotFirst-read_reply
+returns-in-NotFirst-read_reply g c =
+    let b = c.in-Request.ensures.bytes in
+    let unanswered = λ (r : Request) (same : c.in-Request.request ≡ r). subst (λ (s : Request). reply_to (repository_of c.args.trees.now) c.args.rules.now.list s ≡ None) same c.in-NotFirst-read_reply.ensures in
+    (b.0, b.1, λ r message. unanswered r (first_message_unique b.0 c.in-Request.request r b.2 message), Keeps-refl _)
