@@ -1,5 +1,5 @@
 -- Small lists of rules, and what the definition says of them.
-use Rattle.std.proofs.Common.{◌≡◌, ℕ, Bool, true, false, List, [], ◌∷◌, ◌++◌, map, Option, None, Some, refl}
+use Rattle.std.proofs.Common.{◌≡◌, ℕ, true, false, List, [], ◌∷◌, map, Option, None, Some, refl}
 use Rattle.std.specs.Prelude.{codes}
 use Rattle.dsv_base.specs.Paths.{ancestors, parent_text}
 use Rattle.davsvn.specs.declared.base.Base.{Base}

@@ -10,7 +10,7 @@ use Rattle.davsvn.specs.declared.right.Right.{Right}
 use Rattle.davsvn.specs.declared.right.Right.TheVariants.{No, Read, Write}
 use Rattle.davsvn.specs.declared.rule.Rule.{Rule}
 
--- the principal stands for the user, who has a name, or is nobody
+-- the principal stands for the user, who is somebody of a name, or nobody
 abbrev pub stands_for : Base → Option (List ℕ) → Bool
 stands_for All user = true
 stands_for LoggedIn user = is_some user
@@ -33,7 +33,8 @@ abbrev pub greatest : List Right → Option Right
 greatest [] = None
 greatest (r ∷ rs) = Some (fold greater r rs)
 
--- what a group of rules gives the user: the greatest right of those that speak of him, if any does
+-- what a group of rules gives the user: the greatest right of those that speak of this user, if
+-- any does
 abbrev pub right_in : Option (List ℕ) → List Rule → Option Right
 right_in user rules = greatest (map (λ rule. rule.right) (filter (λ rule. matches rule user) rules))
 
@@ -46,7 +47,7 @@ same_repos a b = false
 abbrev pub is_in_group : Option (List ℕ) → List ℕ → Rule → Bool
 is_in_group repos path rule = same_repos rule.repos repos && bytes_eq rule.path path
 
--- the rules of one path that name this repository, or that name none
+-- the rules of one path that name this repository, or those of the path that name none
 abbrev pub group : List Rule → Option (List ℕ) → List ℕ → List Rule
 group rules repos path = filter (is_in_group repos path) rules
 

@@ -4,7 +4,8 @@ ghost use Rattle.std.specs.Prelude.{◌≡◌, Some};
 ghost use Rattle.std.specs.Option.{option_copied, option_map_or};
 ghost use Rattle.std.specs.List.{list_any};
 ghost use Rattle.std.specs.Str.{bytes_eq};
-ghost use Rattle.davsvn.specs.Access.{access, can_read, right_at, right_in, group, is_in_group, same_repos, matches, stands_for, greater};
+ghost use Rattle.davsvn.specs.Access.{access, can_read, right_at, right_in, group};
+ghost use Rattle.davsvn.specs.Access.{is_in_group, same_repos, matches, stands_for, greater};
 
 use crate::base::Base;
 use crate::right::Right;
@@ -57,7 +58,8 @@ fn right_at(rules: &[Rule], name: &[u8], user: Option<&[u8]>, path: &[u8]) -> Op
 
 /// The right that one group gives: the greatest of the rules that speak of the user.
 fn right_in(rules: &[Rule], repos: Option<&[u8]>, user: Option<&[u8]>, path: &[u8]) -> Option<Right>
-    ensures { result ≡ right_in (option_copied user.entry) (group rules.now (option_copied repos.entry) path.now) }
+    ensures { result ≡ right_in (option_copied user.entry)
+        (group rules.now (option_copied repos.entry) path.now) }
 {
     let mut best = None;
     'rules: for rule in rules {

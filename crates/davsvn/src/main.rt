@@ -2,6 +2,10 @@
 #![tactic(auto)]
 
 mod access;
+#[cfg(test)]
+mod access_tests;
+#[cfg(test)]
+mod adapter_tests;
 mod answer;
 mod base;
 mod disk_files;
@@ -24,6 +28,8 @@ mod rules;
 mod rules_fault;
 mod rules_reader;
 mod run;
+#[cfg(test)]
+mod run_tests;
 mod status;
 mod target;
 mod words;

@@ -2,7 +2,8 @@ ghost use Rattle.std.specs.Prelude.{◌≡◌, ◌≤◌, ◌<◌, ◌+◌, leng
 ghost use Rattle.std.specs.Option.{option_copied};
 ghost use Rattle.dsv_base.specs.Gives.{Gives, GivesBy};
 ghost use Rattle.dsv_base.specs.Lines.{lines_of};
-ghost use Rattle.davsvn.specs.Rules.{is_no_memory, rules_of, pairs_of, rule_of, unbracketed, right_of, each_once, paths_of, plain_rule, NextGives};
+ghost use Rattle.davsvn.specs.Rules.{is_no_memory, rules_of, pairs_of, rule_of, unbracketed};
+ghost use Rattle.davsvn.specs.Rules.{right_of, each_once, paths_of, plain_rule, NextGives};
 
 use crate::base::Base;
 use crate::right::Right;

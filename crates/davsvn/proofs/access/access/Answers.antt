@@ -1,8 +1,8 @@
-use Rattle.std.proofs.Common.{◌≡◌, None, refl, sym, ap, ◌∙◌}
+use Rattle.std.proofs.Common.{sym, ap, ◌∙◌}
 use Rattle.std.specs.Option.{option_copied}
 use Rattle.dsv_base.specs.Paths.{ancestors}
 use Rattle.davsvn.specs.Access.{access, right_at}
-use Rattle.davsvn.proofs.AccessWalk.{IsRooted, along, rooted_path, parent_below, along-here, along-parent, along-end, none_from}
+use Rattle.davsvn.proofs.AccessWalk.{along, rooted_path, parent_below, along-here, along-parent, along-end, none_from}
 use Rattle.davsvn.proofs.access.access.Goals as goal
 
 pub upwards-init : goal.upwards-init
