@@ -16,6 +16,8 @@ mod path_fault;
 mod person;
 mod prop;
 mod rev;
+#[cfg(test)]
+mod tests;
 mod text;
 
 pub use bytes::Bytes;

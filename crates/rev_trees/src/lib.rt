@@ -17,6 +17,8 @@ mod reader;
 mod revision;
 mod script;
 mod script_fault;
+#[cfg(test)]
+mod tests;
 mod trees;
 mod unfit;
 mod uuid;
