@@ -1,5 +1,5 @@
 -- What serving says of a run of `pipe`, and what a run's end says of its status.
-use Rattle.std.proofs.Common.{◌≡◌, ◌≢◌, ◌↔◌, ℕ, Bool, true, List, [], Option, None, Some, refl, sym, ap, subst, inl, inr}
+use Rattle.std.proofs.Common.{◌≡◌, ◌≢◌, ◌↔◌, ℕ, Bool, true, List, [], Option, None, Some, refl, sym, ap, ◌∙◌, subst, inl, inr}
 use Rattle.std.specs.Io.KnownBytes.{Appends, Keeps}
 use Rattle.http_front.specs.declared.user.User.{User}
 use Rattle.rev_trees.specs.Trees.{Repository}
@@ -7,10 +7,18 @@ use Rattle.davsvn.specs.declared.end.End.{End}
 use Rattle.davsvn.specs.declared.end.End.TheVariants.{Well, Usage, NotFirst, ReadFault, WriteFault, FileFault, NoMemory}
 use Rattle.davsvn.specs.declared.rules.Rules.{Rules}
 use Rattle.davsvn.specs.Commands.{FileNames}
-use Rattle.davsvn.specs.Opening.{Contents}
+use Rattle.davsvn.specs.Opening.{Contents, IsScript, AreRules, AreUsers}
 use Rattle.davsvn.specs.Replies.{reply_text}
-use Rattle.davsvn.specs.Runs.{Opens, Answered, OutOfForm, IsNextFile, TookFront, ServeSays, PipeSays, WorkSays, ForCommand, IsFileFaultAt}
+use Rattle.davsvn.specs.Runs.{Opens, AreOpen, Answered, OutOfForm, IsNextFile, TookFront, ServeSays, PipeSays, WorkSays, ForCommand, IsFileFaultAt}
 use Rattle.davsvn.specs.Statuses.{number_of, line_of, status_line, IsStatus}
+
+-- the three readings one after another, none of which changes what the files hold
+pub opened : (k0 k1 k2 : Contents) (names : FileNames) (repository : Repository) (rules : Rules) (users : List User) → k1 ≡ k0 → k2 ≡ k1 → IsScript k0 names.script repository → AreRules k1 names.rules rules → AreUsers k2 names.users users → Opens k0 names repository rules users
+opened k0 k1 k2 names repository rules users first second script rules_file users_file = record {
+  script = script;
+  rules_file = subst (λ (k : Contents). AreRules k names.rules rules) first rules_file;
+  users_file = subst (λ (k : Contents). AreUsers k names.users users) (second ∙ first) users_file;
+}
 
 module _ (contents : Contents) (names : FileNames) (left old new : Option (List ℕ)) (over : Bool) (source_rose sink_rose files_rose : Type 0) where
   pub file_faulted : (name : List ℕ) (end : End) → IsFileFaultAt name end → IsNextFile contents names name → files_rose → Keeps old new → PipeSays contents names left old new over source_rose sink_rose files_rose end
@@ -26,8 +34,8 @@ module _ (contents : Contents) (names : FileNames) (left old new : Option (List 
   served repository rules users Well opens s = (reply_text s.2 _ _, record { repository = repository; rules = rules; users = users; input = s.0; asked = s.1; reply = s.2; opens = opens; is_input = s.3; message = s.4; answer = s.5; written = refl }, s.6, s.7)
   served repository rules users Usage opens s = absurd s
   served repository rules users NotFirst opens s = (inr (inr (inr (repository, rules, users, s.0, opens, s.1, s.2))), s.3)
-  served repository rules users ReadFault opens s = s
-  served repository rules users WriteFault opens s = (reply_text s.2 _ _, record { repository = repository; rules = rules; users = users; input = s.0; asked = s.1; reply = s.2; opens = opens; is_input = s.3; message = s.4; answer = s.5; written = refl }, s.6, s.7)
+  served repository rules users ReadFault opens s = (s.0, s.1, (repository, rules, users, opens))
+  served repository rules users WriteFault opens s = (reply_text s.2 _ _, record { repository = repository; rules = rules; users = users; input = s.0; asked = s.1; reply = s.2; opens = opens; is_input = s.3; message = s.4; answer = s.5; written = refl }, s.6, s.7, s.8)
   served repository rules users (FileFault name) opens s = absurd s
   served repository rules users NoMemory opens s = s
 
@@ -143,18 +151,18 @@ module _ (contents : Contents) (left old new : Option (List ℕ)) (over : Bool) 
   pub says_not_first : (words : Option FileNames) (end : End) → Says words end → number_of end ≡ 13 → ForCommand words (λ names. OutOfForm contents names left)
   says_not_first words end s n = not_first_words words (subst (λ (e : End). Says words e) (is_not_first end n) s)
 
-  read_words : (words : Option FileNames) → Says words ReadFault → source_rose
+  read_words : (words : Option FileNames) → Says words ReadFault → source_rose × ForCommand words (AreOpen contents)
   read_words None s = let e : ReadFault ≡ Usage = s.0 in absurd (cc)
-  read_words (Some names) s = s.0
+  read_words (Some names) s = (s.0, s.2)
 
-  pub says_read : (words : Option FileNames) (end : End) → Says words end → number_of end ≡ 4 → source_rose
+  pub says_read : (words : Option FileNames) (end : End) → Says words end → number_of end ≡ 4 → source_rose × ForCommand words (AreOpen contents)
   says_read words end s n = read_words words (subst (λ (e : End). Says words e) (is_read_fault end n) s)
 
-  write_words : (words : Option FileNames) → Says words WriteFault → sink_rose × ForCommand words (λ names. (output : List ℕ) × Answered contents names left output × TookFront old new output)
+  write_words : (words : Option FileNames) → Says words WriteFault → sink_rose × ForCommand words (λ names. (output : List ℕ) × Answered contents names left output × TookFront old new output × (over ≡ true))
   write_words None s = let e : WriteFault ≡ Usage = s.0 in absurd (cc)
-  write_words (Some names) s = (s.3, (s.0, s.1, s.2))
+  write_words (Some names) s = (s.3, (s.0, s.1, s.2, s.4))
 
-  pub says_write : (words : Option FileNames) (end : End) → Says words end → number_of end ≡ 5 → sink_rose × ForCommand words (λ names. (output : List ℕ) × Answered contents names left output × TookFront old new output)
+  pub says_write : (words : Option FileNames) (end : End) → Says words end → number_of end ≡ 5 → sink_rose × ForCommand words (λ names. (output : List ℕ) × Answered contents names left output × TookFront old new output × (over ≡ true))
   says_write words end s n = write_words words (subst (λ (e : End). Says words e) (is_write_fault end n) s)
 
   file_words : (words : Option FileNames) (name : List ℕ) → Says words (FileFault name) → files_rose × ForCommand words (λ names. IsNextFile contents names name)

@@ -1,26 +1,28 @@
 -- What a view shows at a path, by what stands there.
-use Rattle.std.proofs.Common.{◌≡◌, ℕ, zero, suc, ◌+◌, ◌<◌, ◌≤◌, Bool, true, false, cond, List, [], ◌∷◌, Option, None, Some, Result, Ok, Err, map, length, get_or, refl, sym, ap, ◌∙◌, arith}
-use Rattle.std.specs.Prelude.{filter, if◌then◌else◌}
-use Rattle.std.specs.Option.{option_map}
+use Rattle.std.proofs.Common.{◌≡◌, ℕ, zero, suc, ◌≤◌, Bool, true, false, cond, List, [], ◌∷◌, Option, None, Some, Result, Ok, Err, map, length, get_or, refl, sym, ap, ◌∙◌, arith}
+use Rattle.std.specs.Prelude.{filter, codes, if◌then◌else◌}
+use Rattle.std.specs.Option.{option_map, option_and_then}
+use Rattle.std.specs.Str.{bytes_eq}
 use Rattle.std.specs.FinMap.{find}
 use Rattle.std.specs.FinMap.Entries.{find-where_key}
 use Rattle.std.specs.Ordering.{nat_cmp, eq_by_cmp}
-use Rattle.std.specs.declared.cmp.Ordering.TheVariants.{Equal}
 use Rattle.std.specs.Cmp.Lexicographic.{slice_cmp}
 use Rattle.std.proofs.lemmas.Map.Lookups.{exact_bytes}
 use Rattle.dsv_base.specs.Gives.{◌>>=◌}
+use Rattle.http_front.specs.declared.request.Request.{Request}
 use Rattle.rev_trees.specs.declared.node.Node.{Node}
 use Rattle.rev_trees.specs.Trees.{TreeNode, Tree, at}
 use Rattle.rev_trees.specs.Forests.{Numbered, ForestRevision, Forest, tree_of, without_numbers, repository_of, places_at, place_at, id_at, node_at}
 use Rattle.davsvn.specs.declared.refusal.Refusal.{Refusal}
 use Rattle.davsvn.specs.declared.refusal.Refusal.TheVariants.{NoNode}
-use Rattle.davsvn.specs.declared.reply.Reply.{Reply}
+use Rattle.davsvn.specs.declared.resource.Resource.{Resource}
 use Rattle.davsvn.specs.declared.resource.Resource.TheVariants.{Rvr}
 use Rattle.davsvn.specs.declared.rule.Rule.{Rule}
 use Rattle.davsvn.specs.Access.{can_read}
 use Rattle.davsvn.specs.States.{opening_state}
-use Rattle.davsvn.specs.Views.{shown_node, shown_nodes, shown_revision, no_revision, view_of, node_in}
-use Rattle.davsvn.specs.ReadReplies.{denied, or_no_node, node_shown, kind_reply, get_reply}
+use Rattle.davsvn.specs.Targets.{resource_of}
+use Rattle.davsvn.specs.Views.{View, shown_node, shown_nodes, shown_revision, no_revision, view_of, node_in}
+use Rattle.davsvn.specs.ReadReplies.{denied, or_no_node, node_shown, kind_reply, get_reply, method_reply, read_reply}
 use Rattle.davsvn.specs.Answers.{ShowsNode, shown_reply}
 
 -- a look-up among entries whose values were mapped
@@ -99,3 +101,12 @@ place_with forest rev path node e = place_of (place_at forest rev path) node e
 pub reply_is : {N : Type 0} (view : N → Node) (given : Result N Refusal) (right : Result TreeNode Refusal) → ShowsNode view given right → shown_reply view given ≡ get_reply right
 reply_is view (Ok node) right h = (λ i. kind_reply (sym h.2 i).kind (sym h.2 i).text) ∙ ap get_reply (sym h.1)
 reply_is view (Err refusal) right h = ap get_reply (sym h)
+
+-- the reply to a GET of a resource, by what is shown of it
+pub get_is : {N : Type 0} (node_of : N → Node) (given : Result N Refusal) (view : View) (user : Option (List ℕ)) (request : Request) (resource : Resource)
+    → resource_of view.name request.target ≡ Some resource → bytes_eq request.method (codes "GET") ≡ true
+    → ShowsNode node_of given (node_shown view user resource) → shown_reply node_of given ≡ read_reply view user request
+unfolding read_reply
+get_is node_of given view user request resource named get shows =
+    reply_is node_of given (node_shown view user resource) shows
+    ∙ sym (ap (option_and_then (method_reply request.method view user)) named ∙ ap (λ b. if b then get_reply (node_shown view user resource) else None) get)

@@ -1,5 +1,5 @@
 -- An input that goes on past the limit of a message is none.
-use Rattle.std.proofs.Common.{◌≡◌, ℕ, ◌<◌, List, ◌++◌, Option, None, Some, length, subst, refl, arith}
+use Rattle.std.proofs.Common.{ℕ, ◌<◌, List, Option, None, Some, length, subst, refl, arith}
 use Rattle.http_front.specs.Messages.{IsFirstMessage, most_head_bytes}
 use Rattle.http_front.proofs.FirstMessages.{message_is_short, never_long}
 use Rattle.davsvn.specs.Inputs.{IsInput, IsFrontOf, IsNoMessage}

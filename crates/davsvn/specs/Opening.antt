@@ -1,12 +1,11 @@
 -- What the three files give.
-use Rattle.std.specs.Prelude.{ℕ, ◌≡◌, List, Option, Result, Ok, Err, ⊤, Bool, true, false}
+use Rattle.std.specs.Prelude.{ℕ, ◌≡◌, List, Option, Ok, Err, ⊤, Bool, true, false}
 use Rattle.dsv_outside.specs.Reads.{Holds}
 use Rattle.http_front.specs.declared.user.User.{User}
 use Rattle.http_front.specs.declared.users_fault.UsersFault.TheVariants as users_faults
 use Rattle.http_front.specs.UsersFile.{users_of}
 use Rattle.rev_trees.specs.declared.script_fault.ScriptFault.TheVariants as script_faults
 use Rattle.rev_trees.specs.Trees.{Repository}
-use Rattle.rev_trees.specs.Forests.{Forest, repository_of}
 use Rattle.rev_trees.specs.Scripts.{repository_from}
 use Rattle.davsvn.specs.declared.rules.Rules.{Rules}
 use Rattle.davsvn.specs.declared.rules_fault.RulesFault.TheVariants as rules_faults

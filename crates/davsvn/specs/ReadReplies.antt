@@ -1,6 +1,6 @@
 -- The reply to a reading request, as a function of what the user may see: nothing else is among its
--- arguments, so that two states which show a user the same answer him alike.
-use Rattle.std.specs.Prelude.{ℕ, Bool, List, Option, None, Some, Result, Ok, Err, codes, if◌then◌else◌}
+-- arguments, so that two states which show a user the same are answered alike.
+use Rattle.std.specs.Prelude.{ℕ, List, Option, None, Some, Result, Ok, Err, codes, if◌then◌else◌}
 use Rattle.std.specs.Option.{option_and_then}
 use Rattle.std.specs.Str.{bytes_eq}
 use Rattle.dsv_base.specs.Gives.{◌>>=◌}
@@ -53,9 +53,13 @@ abbrev pub get_reply : Result TreeNode Refusal → Option Reply
 get_reply (Ok found) = kind_reply found.node.kind found.node.text
 get_reply (Err refusal) = Some (refusal_reply refusal)
 
--- the reply to a request, where it is one that is answered as yet: a GET of no readable directory
+-- the reply by method: as yet only GET is answered
+abbrev pub method_reply : List ℕ → View → Option (List ℕ) → Resource → Option Reply
+method_reply method view user resource =
+    if bytes_eq method (codes "GET") then get_reply (node_shown view user resource) else None
+
+-- the reply to a request, where it is one that is answered as yet: a GET of anything but a readable
+-- directory; the target is read before the method
 unfoldable pub read_reply : View → Option (List ℕ) → Request → Option Reply
 read_reply view user request =
-    if bytes_eq request.method (codes "GET")
-    then option_and_then (λ resource. get_reply (node_shown view user resource)) (resource_of view.name request.target)
-    else None
+    option_and_then (method_reply request.method view user) (resource_of view.name request.target)

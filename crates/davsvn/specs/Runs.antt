@@ -1,5 +1,5 @@
 -- What a run does, by what it is given.
-use Rattle.std.specs.Prelude.{ℕ, ◌≡◌, ◌≤◌, ◌⊎◌, Bool, true, false, List, take, length, Option, None, Some, Result, Ok, Err, ⊤}
+use Rattle.std.specs.Prelude.{ℕ, ◌≡◌, ◌≤◌, ◌⊎◌, Bool, true, false, List, take, length, Option, None, Some, ⊤}
 use Rattle.std.specs.Io.KnownBytes.{Appends, Keeps}
 use Rattle.http_front.specs.declared.request.Request as request
 use Rattle.http_front.specs.declared.user.User.{User}
@@ -11,7 +11,7 @@ use Rattle.davsvn.specs.declared.reply.Reply.{Reply}
 use Rattle.davsvn.specs.declared.rule.Rule.{Rule}
 use Rattle.davsvn.specs.declared.rules.Rules.{Rules}
 use Rattle.davsvn.specs.Commands.{FileNames}
-use Rattle.davsvn.specs.Inputs.{IsInput, IsNoMessage}
+use Rattle.davsvn.specs.Inputs.{IsInput}
 use Rattle.davsvn.specs.Opening.{Contents, IsScript, IsNoScript, AreRules, AreNoRules, AreUsers, AreNoUsers}
 use Rattle.davsvn.specs.ReadReplies.{read_reply, user_of}
 use Rattle.davsvn.specs.Replies.{reply_text}
@@ -27,6 +27,10 @@ pub record Opens (contents : Contents) (names : FileNames) (repository : Reposit
   pub script : IsScript contents names.script repository
   pub rules_file : AreRules contents names.rules rules
   pub users_file : AreUsers contents names.users users
+
+-- .. whatever they give
+abbrev pub AreOpen : Contents → FileNames → Type 0
+AreOpen contents names = (repository : Repository) × (rules : Rules) × (users : List User) × Opens contents names repository rules users
 
 -- the output is the bytes of the reply to the one request of the input
 pub record Answered (contents : Contents) (names : FileNames) (left : Option (List ℕ)) (output : List ℕ) : Type 0 where
@@ -78,7 +82,7 @@ abbrev pub ServeSays : Repository → List Rule → Option (List ℕ) → Option
 ServeSays repository rules left old new over source_rose sink_rose end.Well = (input : List ℕ) × (r : request.Request) × (reply : Reply) × IsInput left input × IsFirstMessage input r × (reply_to repository rules r ≡ Some reply) × Appends old new (reply_text reply false false) × (over ≡ true)
 ServeSays repository rules left old new over source_rose sink_rose end.NotFirst = (input : List ℕ) × IsInput left input × IsUnanswered repository rules input × Keeps old new
 ServeSays repository rules left old new over source_rose sink_rose end.ReadFault = source_rose × Keeps old new
-ServeSays repository rules left old new over source_rose sink_rose end.WriteFault = (input : List ℕ) × (r : request.Request) × (reply : Reply) × IsInput left input × IsFirstMessage input r × (reply_to repository rules r ≡ Some reply) × TookFront old new (reply_text reply false false) × sink_rose
+ServeSays repository rules left old new over source_rose sink_rose end.WriteFault = (input : List ℕ) × (r : request.Request) × (reply : Reply) × IsInput left input × IsFirstMessage input r × (reply_to repository rules r ≡ Some reply) × TookFront old new (reply_text reply false false) × sink_rose × (over ≡ true)
 ServeSays repository rules left old new over source_rose sink_rose end.NoMemory = Keeps old new
 ServeSays repository rules left old new over source_rose sink_rose end.Usage = ⊥
 ServeSays repository rules left old new over source_rose sink_rose (end.FileFault name) = ⊥
@@ -87,8 +91,8 @@ ServeSays repository rules left old new over source_rose sink_rose (end.FileFaul
 abbrev pub PipeSays : Contents → FileNames → Option (List ℕ) → Option (List ℕ) → Option (List ℕ) → Bool → Type 0 → Type 0 → Type 0 → End → Type 0
 PipeSays contents names left old new over source_rose sink_rose files_rose end.Well = (output : List ℕ) × Answered contents names left output × Appends old new output × (over ≡ true)
 PipeSays contents names left old new over source_rose sink_rose files_rose end.NotFirst = OutOfForm contents names left × Keeps old new
-PipeSays contents names left old new over source_rose sink_rose files_rose end.ReadFault = source_rose × Keeps old new
-PipeSays contents names left old new over source_rose sink_rose files_rose end.WriteFault = (output : List ℕ) × Answered contents names left output × TookFront old new output × sink_rose
+PipeSays contents names left old new over source_rose sink_rose files_rose end.ReadFault = source_rose × Keeps old new × AreOpen contents names
+PipeSays contents names left old new over source_rose sink_rose files_rose end.WriteFault = (output : List ℕ) × Answered contents names left output × TookFront old new output × sink_rose × (over ≡ true)
 PipeSays contents names left old new over source_rose sink_rose files_rose (end.FileFault name) = IsNextFile contents names name × files_rose × Keeps old new
 PipeSays contents names left old new over source_rose sink_rose files_rose end.NoMemory = Keeps old new
 PipeSays contents names left old new over source_rose sink_rose files_rose end.Usage = ⊥

@@ -1,5 +1,5 @@
 -- The exit statuses, and the line that each puts to the errors.
-use Rattle.std.specs.Prelude.{ℕ, ◌≡◌, ◌⊎◌, List, [], ◌∷◌, ◌++◌, Option, codes, ◌==◌, if◌then◌else◌}
+use Rattle.std.specs.Prelude.{ℕ, ◌≡◌, ◌⊎◌, List, [], ◌++◌, Option, codes, ◌==◌, if◌then◌else◌}
 use Rattle.std.specs.Io.KnownBytes.{Appends, Keeps}
 use Rattle.davsvn.specs.declared.end.End.{End}
 use Rattle.davsvn.specs.declared.end.End.TheVariants.{Well, Usage, NotFirst, ReadFault, WriteFault, FileFault, NoMemory}

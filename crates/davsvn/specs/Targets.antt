@@ -1,6 +1,6 @@
 -- What a request target names (Subversion notes, "HTTP protocol v2"), as far as targets are read now:
 -- a path other than `/` of revision 1, written without escapes.
-use Rattle.std.specs.Prelude.{ℕ, Bool, not, ◌&&◌, ◌||◌, List, [], ◌∷◌, ◌++◌, Option, None, Some, length, drop, ◌==◌, nat_eq, codes, if◌then◌else◌}
+use Rattle.std.specs.Prelude.{ℕ, Bool, not, ◌&&◌, ◌||◌, List, ◌++◌, Option, None, Some, length, drop, ◌==◌, nat_eq, codes, if◌then◌else◌}
 use Rattle.std.specs.List.{list_any, starts_with}
 use Rattle.std.specs.Str.{bytes_eq}
 use Rattle.dsv_base.specs.Paths.{is_path, root_text}

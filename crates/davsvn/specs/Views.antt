@@ -1,10 +1,11 @@
--- What a user may see of a state, and all that a reading reply may depend on.
+-- What a user may see of a state, and all that a reading reply may depend on. As yet that is what the
+-- reply to a GET depends on: the record of a revision (its author, moment and changed paths) and the
+-- locks come with the requests that show them.
 use Rattle.std.specs.Prelude.{ℕ, ◌-◌, Bool, not, ◌&&◌, false, List, [], Option, None, Some, map, filter, length, slice_index_or, if◌then◌else◌}
 use Rattle.std.specs.Option.{option_and_then, option_map_or}
 use Rattle.std.specs.List.{filter_map}
 use Rattle.dsv_base.specs.Paths.{parent_text}
 use Rattle.rev_trees.specs.declared.kind.Kind.{Kind}
-use Rattle.rev_trees.specs.declared.line.Line.{Line}
 use Rattle.rev_trees.specs.Trees.{TreeNode, Tree, at, Revision}
 use Rattle.davsvn.specs.declared.rule.Rule.{Rule}
 use Rattle.davsvn.specs.Access.{can_read}
@@ -50,7 +51,7 @@ view_of state user = record {
   revisions = map (shown_revision (can_read state.rules state.name user)) state.revisions;
 }
 
--- past the youngest revision nothing is shown
+-- past the youngest revision nothing is shown; as yet no target names such a revision
 abbrev pub no_revision : ShownRevision
 no_revision = record { nodes = []; hidden = [] }
 

@@ -5,8 +5,8 @@ ghost use Rattle.davsvn.specs.declared.resource.Resource.TheVariants.{Rvr};
 ghost use Rattle.davsvn.specs.States.{opening_state};
 ghost use Rattle.davsvn.specs.Views.{view_of};
 ghost use Rattle.davsvn.specs.Replies.{file_reply};
-ghost use Rattle.davsvn.specs.ReadReplies.{read_reply, node_shown, kind_reply, user_of, denied};
-ghost use Rattle.davsvn.specs.Answers.{Answers, ShowsNode, IsAnswerOf, shown_reply};
+ghost use Rattle.davsvn.specs.ReadReplies.{read_reply, method_reply, node_shown, kind_reply, user_of, denied};
+ghost use Rattle.davsvn.specs.Answers.{ShowsNode, shown_reply};
 
 use crate::access::can_read;
 use crate::refusal::Refusal;
@@ -20,28 +20,26 @@ use http_front::{Login, Request};
 use rev_trees::{Kind, Node, Trees};
 use std::alloc::Global;
 
-/// What a request is answered.
-#[derive(Debug, Drop)]
-pub enum Answer {
-    Reply(Reply),
-    /// The request is none that is answered as yet.
-    NotFirst,
-    NoMemory,
-}
-
-/// The reply to a request, by what the trees and the rules show to the user who sent it.
+/// The reply to a request, by what the trees and the rules show to the user who sent it: none where
+/// it is a request that isn't answered as yet.
+///
+/// # Errors
+/// Want of memory.
 #[tactic(auto, unfolding(crate::specs::ReadReplies::read_reply, crate::specs::Views::view_of))]
-pub fn read_reply(alloc: Global, trees: &Trees, rules: &Rules, request: &Request) -> Answer
-    ensures { Answers result (read_reply (view_of (opening_state (repository_of trees.now) rules.now.list) (user_of request.now.login)) (user_of request.now.login) request.now) }
+pub fn read_reply(
+    alloc: Global,
+    trees: &Trees,
+    rules: &Rules,
+    request: &Request,
+) -> Result<Option<Reply>, NoMemory>
+    ensures { IfOk result (λ reply. reply ≡ read_reply (view_of (opening_state (repository_of trees.now) rules.now.list) (user_of request.now.login)) (user_of request.now.login) request.now) }
 {
-    if request.method.get() != b"GET".as_slice() {
-        return Answer::NotFirst;
-    }
-    let resource = match resource_of(alloc, trees.name(), request.target.get()) {
-        Ok(Some(resource)) => resource,
-        Ok(None) => return Answer::NotFirst,
-        Err(NoMemory) => return Answer::NoMemory,
+    let Some(resource) = resource_of(alloc, trees.name(), request.target.get())? else {
+        return Ok(None);
     };
+    if request.method.get() != b"GET".as_slice() {
+        return Ok(None);
+    }
     let user = user_of(&request.login);
     get_reply(alloc, node_shown(trees, rules, user, &resource))
 }
@@ -102,22 +100,22 @@ fn denied(user: Option<&[u8]>) -> Refusal
     }
 }
 
-fn get_reply(alloc: Global, shown: Result<&Node, Refusal>) -> Answer
-    ensures { Answers result (shown_reply (λ n. n.now) shown.entry) }
+fn get_reply(alloc: Global, shown: Result<&Node, Refusal>) -> Result<Option<Reply>, NoMemory>
+    ensures { IfOk result (λ reply. reply ≡ shown_reply (λ n. n.now) shown.entry) }
 {
     match shown {
         Ok(node) => node_reply(alloc, node),
-        Err(refusal) => answer_of(refusal_reply(alloc, refusal)),
+        Err(refusal) => Ok(Some(refusal_reply(alloc, refusal)?)),
     }
 }
 
 /// A file's text. A directory isn't listed as yet.
-fn node_reply(alloc: Global, node: &Node) -> Answer
-    ensures { Answers result (kind_reply node.now.kind node.now.text) }
+fn node_reply(alloc: Global, node: &Node) -> Result<Option<Reply>, NoMemory>
+    ensures { IfOk result (λ reply. reply ≡ kind_reply node.now.kind node.now.text) }
 {
     match node.kind {
-        Kind::File => answer_of(file_reply(alloc, &node.text)),
-        Kind::Dir => Answer::NotFirst,
+        Kind::File => Ok(Some(file_reply(alloc, &node.text)?)),
+        Kind::Dir => Ok(None),
     }
 }
 
@@ -133,13 +131,4 @@ fn file_reply(alloc: Global, text: &Bytes) -> Result<Reply, NoMemory>
         content: text.copy()?,
         has_content: true,
     })
-}
-
-fn answer_of(reply: Result<Reply, NoMemory>) -> Answer
-    ensures { IsAnswerOf reply result }
-{
-    match reply {
-        Ok(reply) => Answer::Reply(reply),
-        Err(NoMemory) => Answer::NoMemory,
-    }
 }

@@ -1,11 +1,11 @@
-ghost use Rattle.std.specs.Prelude.{◌≡◌, false};
-ghost use Rattle.dsv_outside.specs.Causes.{Rose, HasCause};
+ghost use Rattle.std.specs.Prelude.{◌≡◌, ◌⊎◌, false, None};
+ghost use Rattle.dsv_outside.specs.Causes.{Rose};
 ghost use Rattle.rev_trees.specs.Forests.{repository_of};
 ghost use Rattle.davsvn.specs.Commands.{command};
 ghost use Rattle.davsvn.specs.Replies.{reply_text};
-ghost use Rattle.davsvn.specs.Runs.{ServeSays, PipeSays, WorkSays, SendSays, IsFileFaultAt};
+ghost use Rattle.davsvn.specs.Runs.{AreOpen, ForCommand, ServeSays, PipeSays, WorkSays, SendSays, IsFileFaultAt};
 
-use crate::answer::{Answer, read_reply};
+use crate::answer::read_reply;
 use crate::end::End;
 use crate::file_read::FileRead;
 use crate::opening::{open_rules, open_script, open_users};
@@ -31,6 +31,8 @@ pub fn work<S: Source, K: Sink, F: Files>(
 ) -> End
     ensures says { WorkSays (command words.now) (F.contents files.old) (S.left source.old) (K.taken sink.old) (K.taken sink.new) (S.over source.new) (Rose (S.faults source.old) (S.faults source.new)) (Rose (K.faults sink.old) (K.faults sink.new)) (Rose (F.faults files.old) (F.faults files.new)) result }
     ensures same { F.contents files.new ≡ F.contents files.old }
+    ensures untouched { command words.now ≡ None → (source.new ≡ source.old) × (sink.new ≡ sink.old) × (files.new ≡ files.old) }
+    ensures reached { (source.new ≡ source.old) ⊎ ForCommand (command words.now) (AreOpen (F.contents files.old)) }
 {
     match read_words(words) {
         Some(names) => pipe(alloc, names, source, sink, files),
@@ -49,6 +51,7 @@ fn pipe<S: Source, K: Sink, F: Files>(
 ) -> End
     ensures says { PipeSays (F.contents files.old) (record { script = names.entry.script.now; rules = names.entry.rules.now; users = names.entry.users.now }) (S.left source.old) (K.taken sink.old) (K.taken sink.new) (S.over source.new) (Rose (S.faults source.old) (S.faults source.new)) (Rose (K.faults sink.old) (K.faults sink.new)) (Rose (F.faults files.old) (F.faults files.new)) result }
     ensures same { F.contents files.new ≡ F.contents files.old }
+    ensures reached { (source.new ≡ source.old) ⊎ AreOpen (F.contents files.old) (record { script = names.entry.script.now; rules = names.entry.rules.now; users = names.entry.users.now }) }
 {
     let trees = match open_script(alloc, files, names.script) {
         FileRead::Good(trees) => trees,
@@ -80,7 +83,7 @@ fn file_fault(alloc: Global, name: &[u8]) -> End
     }
 }
 
-/// Reads the source to its end and answers the one request that it is.
+/// Reads the source, which has to be one request, and answers it.
 fn serve<S: Source, K: Sink>(
     alloc: Global,
     trees: &Trees,
@@ -98,9 +101,9 @@ fn serve<S: Source, K: Sink>(
         Received::NoMemory => return End::NoMemory,
     };
     match read_reply(alloc, trees, rules, &request) {
-        Answer::Reply(reply) => send(alloc, &reply, sink),
-        Answer::NotFirst => End::NotFirst,
-        Answer::NoMemory => End::NoMemory,
+        Ok(Some(reply)) => send(alloc, &reply, sink),
+        Ok(None) => End::NotFirst,
+        Err(NoMemory) => End::NoMemory,
     }
 }
 

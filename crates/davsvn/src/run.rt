@@ -2,7 +2,7 @@ ghost use Rattle.std.specs.Prelude.{◌≡◌, ◌≢◌, ◌↔◌, ◌⊎◌, 
 ghost use Rattle.std.specs.Io.KnownBytes.{Appends, Keeps};
 ghost use Rattle.dsv_outside.specs.Causes.{Rose};
 ghost use Rattle.davsvn.specs.Commands.{command};
-ghost use Rattle.davsvn.specs.Runs.{ForCommand, Answered, OutOfForm, IsNextFile, TookFront};
+ghost use Rattle.davsvn.specs.Runs.{ForCommand, AreOpen, Answered, OutOfForm, IsNextFile, TookFront};
 ghost use Rattle.davsvn.specs.Statuses.{IsStatus, status_line, TookLine};
 
 use crate::pipe::work;
@@ -17,7 +17,13 @@ use std::alloc::Global;
 ///
 /// The words are `pipe --script F --rules F --users F`. The three files are read and checked in this
 /// order, then the source, which has to be one GET; its reply goes to the sink, and the status's line
-/// to the errors.
+/// to the errors. Each input is read only where those before it are of their forms.
+///
+/// The status is 0 (answered), 1 (other words), 4, 5 and 6 (a fault of the source, the sink, a file),
+/// 8 (want of memory) or 13 (an input isn't in its first form, or asks for what isn't answered yet).
+///
+/// What the clauses say of files, source and sink they say where these tell it; the objects in memory
+/// do.
 pub fn run<S: Source, K: Sink, E: Sink, F: Files>(
     alloc: Global,
     words: &[Bytes],
@@ -28,12 +34,18 @@ pub fn run<S: Source, K: Sink, E: Sink, F: Files>(
     ensures well { result.0.0 ≡ 0 → ForCommand (command words.now) (λ names. (output : List ℕ) × Answered (F.contents world.files) names (S.left world.source) output × Appends (K.taken world.sink) (K.taken result.1.sink) output × (S.over result.1.source ≡ true)) }
     // 1: exactly where the words are none of the program's
     ensures usage { (result.0.0 ≡ 1) ↔ (command words.now ≡ None) }
-    // 13: the first of script, rules, users and input that isn't in its first form
+    // 13: only where the first of script, rules, users and input that fails isn't in its first form,
+    // or what is asked for is readable and a directory
     ensures not_first { result.0.0 ≡ 13 → ForCommand (command words.now) (λ names. OutOfForm (F.contents world.files) names (S.left world.source)) }
-    // 4, 5 and 6: only where the count of the source, the sink, the files rose
-    ensures read { result.0.0 ≡ 4 → Rose (S.faults world.source) (S.faults result.1.source) }
-    ensures write { result.0.0 ≡ 5 → Rose (K.faults world.sink) (K.faults result.1.sink) × ForCommand (command words.now) (λ names. (output : List ℕ) × Answered (F.contents world.files) names (S.left world.source) output × TookFront (K.taken world.sink) (K.taken result.1.sink) output) }
+    // 4, 5 and 6: only where the count of the source, the sink, the files rose, and what is read and
+    // done before went well
+    ensures read { result.0.0 ≡ 4 → Rose (S.faults world.source) (S.faults result.1.source) × ForCommand (command words.now) (AreOpen (F.contents world.files)) }
+    ensures write { result.0.0 ≡ 5 → Rose (K.faults world.sink) (K.faults result.1.sink) × ForCommand (command words.now) (λ names. (output : List ℕ) × Answered (F.contents world.files) names (S.left world.source) output × TookFront (K.taken world.sink) (K.taken result.1.sink) output × (S.over result.1.source ≡ true)) }
     ensures file { result.0.0 ≡ 6 → Rose (F.faults world.files) (F.faults result.1.files) }
+    // where the words are none of the program's, nothing but the errors is touched; and the source isn't
+    // where a file fails
+    ensures untouched { command words.now ≡ None → (result.1.source ≡ world.source) × (result.1.sink ≡ world.sink) × (result.1.files ≡ world.files) }
+    ensures reached { (result.1.source ≡ world.source) ⊎ ForCommand (command words.now) (AreOpen (F.contents world.files)) }
     // with every other status the sink took nothing
     ensures unput { result.0.0 ≢ 0 → result.0.0 ≢ 5 → Keeps (K.taken world.sink) (K.taken result.1.sink) }
     ensures statuses { IsStatus result.0.0 }

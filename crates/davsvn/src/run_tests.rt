@@ -36,13 +36,16 @@ const WORDS: [&[u8]; 7] = [
     b"users",
 ];
 
-/// A run of `pipe`: the path of revision 1 that is asked for, the files, the calls of the sink that
-/// fail, and what must come of it.
+/// A run of `pipe`: the words, the request, the files, the calls of source and sink that fail, and what
+/// must come of it.
 #[derive(Clone, Copy)]
 struct Row {
     words: &'static [&'static [u8]],
     request: &'static [u8],
+    script: &'static [u8],
     rules: Option<&'static [u8]>,
+    users: Option<&'static [u8]>,
+    source_fails: &'static [u64],
     sink_fails: &'static [u64],
     status: u8,
     output: &'static [u8],
@@ -53,7 +56,10 @@ struct Row {
 const TEXT: Row = Row {
     words: &WORDS,
     request: b"GET /svn/demo/!svn/rvr/1/pub/a HTTP/1.1\r\n\r\n",
+    script: SCRIPT,
     rules: Some(RULES),
+    users: Some(b""),
+    source_fails: &[],
     sink_fails: &[],
     status: 0,
     output: b"HTTP/1.1 200 OK\r\nContent-Type: text/plain\r\nContent-Length: 3\r\n\r\nabc",
@@ -84,7 +90,7 @@ Content-Length: 167\r
 <D:error xmlns:D=\"DAV:\" xmlns:m=\"http://apache.org/dav/xmlns\"><m:human-readable errcode=\"8\">NoNode</m:human-readable></D:error>
 ";
 
-const ROWS: [Row; 10] = [
+const ROWS: [Row; 14] = [
     TEXT,
     Row {
         request: b"GET /svn/demo/!svn/rvr/1/sec/k HTTP/1.1\r\n\r\n",
@@ -130,6 +136,36 @@ const ROWS: [Row; 10] = [
         ..TEXT
     },
     Row {
+        users: None,
+        status: 6,
+        output: b"",
+        line: b"davsvn: file fault: users\n",
+        ..TEXT
+    },
+    // the script is checked before the rules are read
+    Row {
+        script: b"davsvn-script 2\n",
+        rules: None,
+        ..NOT_FIRST
+    },
+    Row {
+        source_fails: &[0],
+        status: 4,
+        output: b"",
+        line: b"davsvn: read fault\n",
+        ..TEXT
+    },
+    // a file's name isn't empty
+    Row {
+        words: &[
+            b"pipe", b"--script", b"script", b"--rules", b"", b"--users", b"users",
+        ],
+        status: 1,
+        output: b"",
+        line: b"davsvn: usage\n",
+        ..TEXT
+    },
+    Row {
         words: &[b"pipe"],
         status: 1,
         output: b"",
@@ -144,12 +180,14 @@ fn bytes_of<R: AllocGlobal>(rt: &R, text: &[u8]) -> Result<Bytes, Fail> {
     Ok(Bytes::of(rt.alloc(), text).ok().ok_or("no memory")?)
 }
 
-fn files_of<R: AllocGlobal>(rt: &R, rules: Option<&[u8]>) -> Result<MemFiles, Fail> {
+fn files_of<R: AllocGlobal>(rt: &R, row: &Row) -> Result<MemFiles, Fail> {
     let mut files = Vec::new(rt.alloc());
-    files.push((bytes_of(rt, b"script")?, bytes_of(rt, SCRIPT)?))?;
-    files.push((bytes_of(rt, b"users")?, bytes_of(rt, b"")?))?;
-    if let Some(rules) = rules {
+    files.push((bytes_of(rt, b"script")?, bytes_of(rt, row.script)?))?;
+    if let Some(rules) = row.rules {
         files.push((bytes_of(rt, b"rules")?, bytes_of(rt, rules)?))?;
+    }
+    if let Some(users) = row.users {
+        files.push((bytes_of(rt, b"users")?, bytes_of(rt, users)?))?;
     }
     Ok(MemFiles::new(files, Vec::new(rt.alloc())))
 }
@@ -157,10 +195,10 @@ fn files_of<R: AllocGlobal>(rt: &R, rules: Option<&[u8]>) -> Result<MemFiles, Fa
 fn world_of<R: AllocGlobal>(rt: &R, row: &Row) -> Result<MemWorld, Fail> {
     let alloc = rt.alloc();
     Ok(World {
-        source: MemSource::new(bytes_of(rt, row.request)?, Vec::new(alloc)),
+        source: MemSource::new(bytes_of(rt, row.request)?, row.source_fails.to_vec(alloc)?),
         sink: MemSink::new(bytes_of(rt, b"")?, row.sink_fails.to_vec(alloc)?),
         errors: MemSink::new(bytes_of(rt, b"")?, Vec::new(alloc)),
-        files: files_of(rt, row.rules)?,
+        files: files_of(rt, row)?,
     })
 }
 

@@ -1,6 +1,6 @@
 ghost use Rattle.std.specs.Prelude.{◌≡◌};
 ghost use Rattle.std.specs.Option.{option_map};
-ghost use Rattle.davsvn.specs.Commands.{command};
+ghost use Rattle.davsvn.specs.Commands.{command, names_of, is_file_name};
 
 use dsv_base::Bytes;
 
@@ -30,12 +30,33 @@ pub fn read_words(words: &[Bytes]) -> Option<FileNames<'_>>
             if third.get() != b"--users".as_slice() {
                 return None;
             }
-            Some(FileNames {
-                script: script.get(),
-                rules: rules.get(),
-                users: users.get(),
-            })
+            names_of(script.get(), rules.get(), users.get())
         }
         _ => None,
+    }
+}
+
+/// The three names, where each can be a file's.
+fn names_of<'a>(script: &'a [u8], rules: &'a [u8], users: &'a [u8]) -> Option<FileNames<'a>>
+    ensures { option_map (λ names. record { script = names.script.now; rules = names.rules.now; users = names.users.now }) result ≡ names_of script.entry.now rules.entry.now users.entry.now }
+{
+    if is_file_name(script) && is_file_name(rules) && is_file_name(users) {
+        Some(FileNames {
+            script,
+            rules,
+            users,
+        })
+    } else {
+        None
+    }
+}
+
+/// A file's name isn't empty.
+fn is_file_name(name: &[u8]) -> bool
+    ensures { result ≡ is_file_name name.now }
+{
+    match name {
+        [] => false,
+        _ => true,
     }
 }

@@ -1,6 +1,5 @@
-use Rattle.std.proofs.Common.{◌≡◌, ◌≤◌, true, false, length, Some, sym, ◌∙◌, arith}
+use Rattle.std.proofs.Common.{◌≡◌, ◌≤◌, true, false, length, sym, arith}
 use Rattle.std.specs.Option.{option_copied}
-use Rattle.rev_trees.specs.Forests.{id_at}
 use Rattle.davsvn.specs.Access.{can_read}
 use Rattle.davsvn.proofs.Shown.{shown_denied, shown_missing, shown_found, nothing_at, nothing_past, place_with}
 use Rattle.davsvn.proofs.answer.node_at.Goals as goal

@@ -1,11 +1,11 @@
-use Rattle.std.proofs.Common.{◌≡◌, ℕ, List, inl, inr, refl, subst, ◌∙◌}
+use Rattle.std.proofs.Common.{inl, inr, refl, subst, ◌∙◌}
 use Rattle.std.proofs.KnownBytes.{Keeps-refl}
 use Rattle.dsv_outside.proofs.Causes.{Rose-earlier}
-use Rattle.davsvn.specs.Opening.{Contents, IsScript, AreRules, AreNoRules, AreUsers, AreNoUsers}
+use Rattle.davsvn.specs.Opening.{Contents, AreRules, AreNoRules, AreNoUsers}
 use Rattle.rev_trees.specs.Forests.{repository_of}
 use Rattle.davsvn.specs.Commands.{FileNames}
 use Rattle.davsvn.specs.Runs.{Opens}
-use Rattle.davsvn.proofs.RunLemmas.{file_faulted, served}
+use Rattle.davsvn.proofs.RunLemmas.{opened, file_faulted, served}
 use Rattle.davsvn.proofs.pipe.pipe.Goals as goal
 
 pub returns-in-NotFirst-open_rules-clause-says : goal.returns-in-NotFirst-open_rules-clause-says
@@ -33,11 +33,12 @@ returns-in-Failed-open_users-clause-says g c =
 
 pub returns-clause-says : goal.returns-clause-says
 returns-clause-says g c =
-    let same = c.in-Good-open_rules.ensures.same ∙ c.in-Good.ensures.same in
     let names : FileNames = record { script = c.args.names.script.now; rules = c.args.names.rules.now; users = c.args.names.users.now } in
-    let opens : Opens (g.F.Files.contents c.args.files.now) names (repository_of c.in-Good.trees) c.in-Good-open_rules.rules c.in-Good-open_users.users = record {
-      script = c.in-Good.ensures.bytes;
-      rules_file = subst (λ (k : Contents). AreRules k c.args.names.rules.now c.in-Good-open_rules.rules) c.in-Good.ensures.same c.in-Good-open_rules.ensures.bytes;
-      users_file = subst (λ (k : Contents). AreUsers k c.args.names.users.now c.in-Good-open_users.users) same c.in-Good-open_users.ensures.bytes;
-    } in
+    let opens : Opens (g.F.Files.contents c.args.files.now) names (repository_of c.in-Good.trees) c.in-Good-open_rules.rules c.in-Good-open_users.users
+        = opened _ _ _ names _ _ _ c.in-Good.ensures.same c.in-Good-open_rules.ensures.same c.in-Good.ensures.bytes c.in-Good-open_rules.ensures.bytes c.in-Good-open_users.ensures.bytes in
     served _ names _ _ _ _ _ _ _ (repository_of c.in-Good.trees) c.in-Good-open_rules.rules c.in-Good-open_users.users c.serve.result opens c.serve.ensures
+
+pub returns-clause-reached : goal.returns-clause-reached
+returns-clause-reached g c =
+    let names : FileNames = record { script = c.args.names.script.now; rules = c.args.names.rules.now; users = c.args.names.users.now } in
+    inr (_, _, _, opened _ _ _ names _ _ _ c.in-Good.ensures.same c.in-Good-open_rules.ensures.same c.in-Good.ensures.bytes c.in-Good-open_rules.ensures.bytes c.in-Good-open_users.ensures.bytes)

@@ -1,6 +1,4 @@
-use Rattle.std.proofs.Common.{◌≡◌, List, ℕ}
 use Rattle.davsvn.specs.Commands.{command}
-use Rattle.davsvn.specs.Statuses.{line_of, TookLine}
 use Rattle.davsvn.proofs.RunLemmas.{says_well, says_usage, says_not_first, says_read, says_write, says_file, says_kept, says_name, name_in, line_is, is_status}
 use Rattle.davsvn.proofs.run.run.Goals as goal
 
@@ -16,6 +14,8 @@ returns g c =
       read = says_read _ _ _ _ _ _ _ _ words end says;
       write = says_write _ _ _ _ _ _ _ _ words end says;
       file = says_file _ _ _ _ _ _ _ _ words end says;
+      untouched = c.work-end.ensures.untouched;
+      reached = c.work-end.ensures.reached;
       unput = says_kept _ _ _ _ _ _ _ _ words end says;
       statuses = is_status end;
       line = (name_in end, says_name _ _ _ _ _ _ _ _ words end says, rw line_is at c.put_line.ensures);
