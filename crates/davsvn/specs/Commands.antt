@@ -22,6 +22,6 @@ names_of script rules users =
 abbrev pub command : List (List ℕ) → Option FileNames
 command (pipe ∷ first ∷ script ∷ second ∷ rules ∷ third ∷ users ∷ []) =
     if bytes_eq pipe (codes "pipe") && bytes_eq first (codes "--script")
-        && bytes_eq second (codes "--rules") && bytes_eq third (codes "--users")
+    && bytes_eq second (codes "--rules") && bytes_eq third (codes "--users")
     then names_of script rules users else None
 command _ = None

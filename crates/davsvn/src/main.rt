@@ -56,13 +56,24 @@ fn command_words(rt: &HostRuntime) -> io::Result<Vec<Bytes>> {
     Ok(words)
 }
 
+/// The exit status of want of memory, before `run` could be called.
+const NO_MEMORY: u8 = 8;
+
+/// A word that isn't UTF-8 is none of the program's, so `run` is given no words in its place.
 fn main(rt: HostRuntime) -> io::Result<ExitCode> {
-    let words = command_words(&rt)?;
+    let words = match command_words(&rt) {
+        Ok(words) => words,
+        Err(error) if error.kind() == io::ErrorKind::InvalidData => Vec::new(rt.alloc()),
+        Err(_) => return Ok(ExitCode::from(NO_MEMORY)),
+    };
+    let Ok(files) = rt.clone() else {
+        return Ok(ExitCode::from(NO_MEMORY));
+    };
     let world = World {
         source: Reading::new(rt.stdin()),
         sink: Writing::new(rt.stdout()),
         errors: Writing::new(rt.stderr()),
-        files: DiskFiles::new(rt.clone()?),
+        files: DiskFiles::new(files),
     };
     let (status, _world) = run(rt.alloc(), words.as_slice(), world);
     Ok(ExitCode::from(status.0))

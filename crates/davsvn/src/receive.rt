@@ -11,7 +11,8 @@ use std::alloc::Global;
 /// The most bytes that a message in the first form has.
 const MOST_BYTES: usize = 16_384;
 
-/// Reads the source to its end, which has to be one request.
+/// Reads the source to its end, or to more bytes than a message has. What it gives has to be one
+/// request.
 pub fn receive<S: Source>(alloc: Global, source: &mut S, users: &Users) -> Received
     ensures bytes { Receives (S.left source.old) (S.over source.new) result }
     ensures cause { HasCause (S.faults source.old) (S.faults source.new) (is_failed_receive result) }

@@ -5,7 +5,8 @@ use dsv_base::{Bytes, Field, List};
 pub struct Reply {
     /// The status code.
     pub status: u16,
-    /// The fields in their order, without Content-Length and Connection, which are told by the rest.
+    /// The fields in their order. Content-Length and Connection aren't among them: `reply_bytes` adds
+    /// these by the content and by whether the connection ends.
     pub fields: List<Field>,
     pub content: Bytes,
     /// Whether the reply has content: the text of an empty file is content too.

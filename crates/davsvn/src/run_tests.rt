@@ -158,7 +158,13 @@ const ROWS: [Row; 14] = [
     // a file's name isn't empty
     Row {
         words: &[
-            b"pipe", b"--script", b"script", b"--rules", b"", b"--users", b"users",
+            b"pipe",
+            b"--script",
+            b"script",
+            b"--rules",
+            b"",
+            b"--users",
+            b"users",
         ],
         status: 1,
         output: b"",

@@ -35,7 +35,7 @@ pub returns-clause-says : goal.returns-clause-says
 returns-clause-says g c =
     let names : FileNames = record { script = c.args.names.script.now; rules = c.args.names.rules.now; users = c.args.names.users.now } in
     let opens : Opens (g.F.Files.contents c.args.files.now) names (repository_of c.in-Good.trees) c.in-Good-open_rules.rules c.in-Good-open_users.users
-        = opened _ _ _ names _ _ _ c.in-Good.ensures.same c.in-Good-open_rules.ensures.same c.in-Good.ensures.bytes c.in-Good-open_rules.ensures.bytes c.in-Good-open_users.ensures.bytes in
+    = opened _ _ _ names _ _ _ c.in-Good.ensures.same c.in-Good-open_rules.ensures.same c.in-Good.ensures.bytes c.in-Good-open_rules.ensures.bytes c.in-Good-open_users.ensures.bytes in
     served _ names _ _ _ _ _ _ _ (repository_of c.in-Good.trees) c.in-Good-open_rules.rules c.in-Good-open_users.users c.serve.result opens c.serve.ensures
 
 pub returns-clause-reached : goal.returns-clause-reached
