@@ -1,0 +1,97 @@
+-- One more entry in a map from labels to places.
+use Rattle.std.proofs.Common.{Ordering, Less, Equal, Greater, ◌≡◌, ℕ, ◌+◌, Bool, true, false, cond, List, [], ◌∷◌, ◌++◌, length, take, get_or, ◌<◌, Option, Some, None, refl, ap, sym, ◌∙◌, arith}
+use Rattle.std.specs.Prelude.{if◌then◌else◌}
+use Rattle.std.specs.BTreeMap.{insert_entry}
+use Rattle.std.specs.Cmp.Lexicographic.{slice_cmp}
+use Rattle.std.specs.Map.{lookup}
+use Rattle.std.specs.Ordering.{match_ordering, nat_cmp, is_eq}
+use Rattle.std.specs.Str.{bytes_eq}
+use Rattle.std.proofs.lemmas.Grind.{common_steps}
+use Rattle.std.proofs.lemmas.List.{take_more}
+use Rattle.std.proofs.lemmas.Cmp.{tied_itself, nat_list_cmp_total}
+use Rattle.std.proofs.lemmas.Map.Lookups.{exact_bytes}
+use Rattle.std.proofs.lemmas.Map.Text.{is_eq-slice_cmp}
+use Rattle.authz_file.specs.declared.entry.Entry.{Entry}
+use Rattle.authz_file.specs.Groups.{last_from, later, place_of_label}
+
+equal_from : (o : Ordering) → is_eq o ≡ true → o ≡ Equal
+equal_from Less h = cc
+equal_from Equal h = refl
+equal_from Greater h = cc
+
+-- a text that is equal to two makes them equal
+apart : (x y : List ℕ) → slice_cmp nat_cmp x y ≡ Greater → (q : List ℕ) → is_eq (slice_cmp nat_cmp q x) ≡ true → is_eq (slice_cmp nat_cmp q y) ≡ true → ⊥
+apart x y h q a b =
+    let e : q ≡ x = exact_bytes q x (equal_from (slice_cmp nat_cmp q x) a) in
+    let f : q ≡ y = exact_bytes q y (equal_from (slice_cmp nat_cmp q y) b) in
+    let same : slice_cmp nat_cmp x y ≡ slice_cmp nat_cmp q q = ap (λ t. slice_cmp nat_cmp t y) (sym e) ∙ ap (λ t. slice_cmp nat_cmp q t) (sym f) in
+    let tied : slice_cmp nat_cmp q q ≡ Equal = tied_itself nat_list_cmp_total q in
+    cc
+
+twice : (b : Bool) (x y l : Option ℕ) → cond b x l ≡ cond b x (cond b y l)
+twice true x y l = refl
+twice false x y l = refl
+
+turned : (a b : Bool) (x y l : Option ℕ) → (a ≡ true → b ≡ true → ⊥) → cond a x (cond b y l) ≡ cond b y (cond a x l)
+turned true true x y l h = absurd (h refl refl)
+turned true false x y l h = refl
+turned false true x y l h = refl
+turned false false x y l h = refl
+
+-- the value at a text, after an insert
+module _ {K : Type 0} (text : K → List ℕ) where
+  abbrev pub order : K → K → Ordering
+  order x y = slice_cmp nat_cmp (text x) (text y)
+
+  abbrev pub at : List ℕ → K → Bool
+  at q k = is_eq (slice_cmp nat_cmp q (text k))
+
+  pub lookup-inserted : (q : List ℕ) (key : K) (v : ℕ) (es : List (K × ℕ)) → lookup (at q) (insert_entry order es key v) ≡ cond (at q key) (Some v) (lookup (at q) es)
+  lookup-inserted q key v [] = refl
+  lookup-inserted q key v (e ∷ es) = either (order key e.0) refl (lookup-inserted q key v es)
+    where
+      either : (o : Ordering) → order key e.0 ≡ o → lookup (at q) (insert_entry order es key v) ≡ cond (at q key) (Some v) (lookup (at q) es)
+          → lookup (at q) (match_ordering o ((key, v) ∷ e ∷ es) ((e.0, v) ∷ es) (e ∷ insert_entry order es key v)) ≡ cond (at q key) (Some v) (cond (at q e.0) (Some e.1) (lookup (at q) es))
+      either Less h rest = refl
+      either Equal h rest =
+          let same : at q e.0 ≡ at q key = ap (λ t. is_eq (slice_cmp nat_cmp q t)) (sym (exact_bytes (text key) (text e.0) h)) in
+          twice (at q e.0) (Some v) (Some e.1) (lookup (at q) es) ∙ ap (λ b. cond b (Some v) (cond (at q e.0) (Some e.1) (lookup (at q) es))) same
+      either Greater h rest = ap (cond (at q e.0) (Some e.1)) rest ∙ turned (at q e.0) (at q key) (Some e.1) (Some v) (lookup (at q) es) (λ a b. apart (text key) (text e.0) h q b a)
+
+-- the last place, with one more entry at the end
+later-some : (o : Option ℕ) (b : Bool) (n : ℕ) (first : Option ℕ) → later (if b then Some n else o) first ≡ (if b then Some n else later o first)
+later-some o true n first = refl
+later-some o false n first = refl
+
+last_from-push : (n : ℕ) (es : List Entry) (e : Entry) (label : List ℕ) → last_from n (es ++ e ∷ []) label ≡ (if bytes_eq label e.label then Some (n + length es) else last_from n es label)
+last_from-push n [] e label = ap (λ m. if bytes_eq label e.label then Some m else None) (omega arith)
+last_from-push n (x ∷ es) e label =
+    let first : Option ℕ = if bytes_eq label x.label then Some n else None in
+    ap (λ o. later o first) (last_from-push (n + 1) es e label)
+    ∙ later-some (last_from (n + 1) es label) (bytes_eq label e.label) (n + 1 + length es) first
+    ∙ ap (λ m. if bytes_eq label e.label then Some m else later (last_from (n + 1) es label) first) (omega arith)
+
+pub place_of_label-push : (es : List Entry) (e : Entry) (label : List ℕ) → place_of_label (es ++ e ∷ []) label ≡ (if bytes_eq label e.label then Some (length es) else place_of_label es label)
+unfolding place_of_label
+place_of_label-push es e label = last_from-push 0 es e label ∙ ap (λ m. if bytes_eq label e.label then Some m else last_from 0 es label) (omega arith)
+
+-- the map and the list go together
+pub places-more : {K : Type 0} (text : K → List ℕ) (map : List (K × ℕ)) (es : List Entry) (e : Entry) (key : K) → text key ≡ e.label
+    → (label : List ℕ) → lookup (at text label) map ≡ place_of_label es label
+    → lookup (at text label) (insert_entry (order text) map key (length es)) ≡ place_of_label (es ++ e ∷ []) label
+places-more text map es e key same label before =
+    lookup-inserted text label key (length es) map
+    ∙ ap (λ b. cond b (Some (length es)) (lookup (at text label) map)) (is_eq-slice_cmp label (text key) ∙ ap (bytes_eq label) same)
+    ∙ ap (λ o. cond (bytes_eq label e.label) (Some (length es)) o) before
+    ∙ sym (place_of_label-push es e label)
+
+-- one step of a loop over all entries
+pub places-step : {K : Type 0} (text : K → List ℕ) (old new : List (K × ℕ)) (all : List Entry) (i : ℕ) (e : Entry) (key : K) → i < length all → e ≡ get_or all i e → text key ≡ e.label
+    → new ≡ insert_entry (order text) old key i → (label : List ℕ) → lookup (at text label) old ≡ place_of_label (take i all) label
+    → lookup (at text label) new ≡ place_of_label (take (i + 1) all) label
+places-step text old new all i e key within is same made label before =
+    let size : length (take i all) ≡ i = grind (arith, common_steps) in
+    let more : take (i + 1) all ≡ take i all ++ e ∷ [] = take_more all i e within ∙ ap (λ x. take i all ++ x ∷ []) (sym is) in
+    ap (lookup (at text label)) (made ∙ ap (insert_entry (order text) old key) (sym size))
+    ∙ places-more text old (take i all) e key same label before
+    ∙ ap (λ xs. place_of_label xs label) (sym more)

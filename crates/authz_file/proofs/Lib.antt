@@ -1,0 +1,10 @@
+pub mod Rows
+pub mod Blanks
+pub mod LineParts
+pub mod RepositoryCut
+pub mod Front
+pub mod LabelMap
+pub mod Reach
+pub mod Graphs
+pub mod NameSets
+pub mod Falling

@@ -1,0 +1,74 @@
+-- The entries of a file, in the order of their lines, or the first line that breaks the grammar.
+use Rattle.std.specs.Prelude.{ℕ, false, List, [], ◌∷◌, ◌++◌, Option, None, Some, Result, Ok, Err, ◌≡◌, if◌then◌else◌}
+use Rattle.dsv_base.specs.Gives.{◌>>=◌, Gives}
+use Rattle.authz_file.specs.declared.entry.Entry.{Entry}
+use Rattle.authz_file.specs.declared.line.Line.{Line}
+use Rattle.authz_file.specs.declared.line.Line.TheVariants.{Head, Body, Stray}
+use Rattle.authz_file.specs.declared.place.Place.{Place}
+use Rattle.authz_file.specs.declared.rules_fault.RulesFault.{RulesFault}
+use Rattle.authz_file.specs.declared.rules_fault.RulesFault.TheVariants.{BadLine, BadSection, BadAccess}
+use Rattle.authz_file.specs.declared.section.Section.{Section}
+use Rattle.authz_file.specs.declared.section.Section.TheVariants.{Groups, Aliases, At}
+use Rattle.authz_file.specs.Faults.{is_no_memory}
+use Rattle.authz_file.specs.Lines.{file_lines, joined_lines}
+use Rattle.authz_file.specs.Sections.{section_of, place_name}
+use Rattle.authz_file.specs.Words.{key_value, words_of, is_user, is_negated, principal_of, who_of, own_words, right_of}
+
+abbrev pub or_fault : {X : Type 0} → RulesFault → Option X → Result X RulesFault
+or_fault fault None = Err fault
+or_fault fault (Some x) = Ok x
+
+abbrev pub section_at : ℕ → List ℕ → Result Section RulesFault
+section_at line text = or_fault (BadSection line) (section_of text)
+
+-- a line of `[groups]` defines `@KEY`
+unfoldable pub group_entry : ℕ → List ℕ → List ℕ → Result Entry RulesFault
+group_entry line key value = or_fault (BadLine line) (words_of value) >>= (λ words.
+    Ok (record { line = line; label = 64 ∷ key; words = words; grant = None }))
+
+-- a line of `[aliases]` defines `&KEY`
+unfoldable pub alias_entry : ℕ → List ℕ → List ℕ → Result Entry RulesFault
+alias_entry line key value = if is_user value
+    then Ok (record { line = line; label = 38 ∷ key; words = value ∷ []; grant = None })
+    else Err (BadLine line)
+
+-- a line of a path section. No line has a line feed in it, so lines have equal labels where they stand
+-- in sections of one name and have one key
+unfoldable pub grant_entry : Place → ℕ → List ℕ → List ℕ → Result Entry RulesFault
+grant_entry place line key value =
+    or_fault (BadLine line) (who_of (principal_of key)) >>= (λ who.
+    or_fault (BadAccess line) (right_of value) >>= (λ right.
+    Ok (record { line = line; label = place_name place.repos place.path ++ 10 ∷ key; words = own_words who (principal_of key); grant = Some (record { place = place; negated = is_negated key; who = who; right = right }) })))
+
+-- before any section there is none
+abbrev pub entry_in : Option Section → ℕ → List ℕ → List ℕ → Result Entry RulesFault
+entry_in None line key value = Err (BadLine line)
+entry_in (Some Groups) line key value = group_entry line key value
+entry_in (Some Aliases) line key value = alias_entry line key value
+entry_in (Some (At place)) line key value = grant_entry place line key value
+
+unfoldable pub entry_at : Option Section → ℕ → List ℕ → Result Entry RulesFault
+entry_at section line text = or_fault (BadLine line) (key_value text) >>= (λ p. entry_in section line p.0 p.1)
+
+-- the entries of the lines that come in this section
+unfoldable pub entries_of : Option Section → List Line → Result (List Entry) RulesFault
+entries_of section [] = Ok []
+entries_of section (Stray line ∷ rest) = Err (BadLine line)
+entries_of section (Head line text ∷ rest) = section_at line text >>= (λ next. entries_of (Some next) rest)
+entries_of section (Body line text ∷ rest) = entry_at section line text >>= (λ entry. entries_of section rest >>= (λ entries. Ok (entry ∷ entries)))
+
+-- the entries of a file
+unfoldable pub file_entries : List ℕ → Result (List Entry) RulesFault
+file_entries bytes = entries_of None (joined_lines false 1 (file_lines bytes))
+
+-- entries that come before those that are read
+abbrev pub with_front : List Entry → Result (List Entry) RulesFault → Result (List Entry) RulesFault
+with_front front read = read >>= (λ entries. Ok (front ++ entries))
+
+-- one more line is read: the entries and the section are the first, and then the second
+abbrev pub Reads : Option Section × List Entry → Line → Option Section × List Entry → Type 0
+Reads before line after = (rest : List Line) → with_front before.1 (entries_of before.0 (line ∷ rest)) ≡ with_front after.1 (entries_of after.0 rest)
+
+-- the line is refused
+abbrev pub Refuses : Option Section → Line → RulesFault → Type 0
+Refuses section line fault = (rest : List Line) → Gives {X = List Entry} is_no_memory (Err fault) (entries_of section (line ∷ rest))

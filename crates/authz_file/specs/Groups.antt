@@ -1,0 +1,67 @@
+-- What labels name, what groups reach, and the users that they hold.
+use Rattle.std.specs.Prelude.{ℕ, zero, suc, ◌+◌, Bool, List, [], ◌∷◌, ◌++◌, map, length, Option, None, Some, nat_eq, if◌then◌else◌, slice_index_or}
+use Rattle.std.specs.List.{list_any, filter, filter_map, flat_map}
+use Rattle.std.specs.Str.{bytes_eq}
+use Rattle.std.specs.Ordering.{match_ordering, nat_cmp}
+use Rattle.std.specs.Cmp.Lexicographic.{slice_cmp}
+use Rattle.authz_file.specs.declared.entry.Entry.{Entry}
+use Rattle.authz_file.specs.Words.{is_user}
+
+-- a later place, where there is one
+abbrev pub later : Option ℕ → Option ℕ → Option ℕ
+later None earlier = earlier
+later (Some place) earlier = Some place
+
+-- the place of the last entry with this label, where the first entry is at place n
+abbrev pub last_from : ℕ → List Entry → List ℕ → Option ℕ
+last_from n [] label = None
+last_from n (e ∷ es) label = later (last_from (n + 1) es label) (if bytes_eq label e.label then Some n else None)
+
+-- where the entry stands that counts for this label
+unfoldable pub place_of_label : List Entry → List ℕ → Option ℕ
+place_of_label entries label = last_from 0 entries label
+
+-- what a word names: a definition, unless it is the name of a user
+abbrev pub target : List Entry → List ℕ → Option ℕ
+target entries word = if is_user word then None else place_of_label entries word
+
+-- per entry the places of the definitions that its words name
+unfoldable pub targets : List Entry → List (List ℕ)
+targets entries = map (λ e. filter_map (target entries) e.words) entries
+
+abbrev pub named_at : List (List ℕ) → ℕ → List ℕ
+named_at graph place = slice_index_or graph place []
+
+-- the places that are reached from these in at most so many steps, these among them
+unfoldable pub reached : List (List ℕ) → ℕ → List ℕ → List ℕ
+reached graph zero places = places
+reached graph (suc steps) places = places ++ reached graph steps (flat_map (named_at graph) places)
+
+-- no way needs more steps than there are entries
+abbrev pub reached_by : List (List ℕ) → List ℕ → List ℕ
+reached_by graph places = reached graph (length graph) places
+
+-- a definition that reaches itself. An entry that doesn't count is reached by none
+abbrev pub is_circular : List (List ℕ) → ℕ → Bool
+is_circular graph place = list_any (nat_eq place) (reached_by graph (named_at graph place))
+
+-- a name put to its place in byte order, once
+abbrev pub with_name : List (List ℕ) → List ℕ → List (List ℕ)
+with_name [] name = name ∷ []
+with_name (n ∷ ns) name = match_ordering (slice_cmp nat_cmp name n) (name ∷ n ∷ ns) (n ∷ ns) (n ∷ with_name ns name)
+
+-- names in byte order, each once
+unfoldable pub in_order : List (List ℕ) → List (List ℕ)
+in_order [] = []
+in_order (name ∷ names) = with_name (in_order names) name
+
+-- the users that an entry names by itself
+abbrev pub users_of : Entry → List (List ℕ)
+users_of entry = filter is_user entry.words
+
+abbrev pub users_at : List Entry → ℕ → List (List ℕ)
+users_at entries place = slice_index_or (map users_of entries) place []
+
+-- all users that the entry at this place names, by itself and by way of groups and aliases
+unfoldable pub names_at : List Entry → ℕ → List (List ℕ)
+names_at entries place = in_order (flat_map (users_at entries) (reached_by (targets entries) (place ∷ [])))

@@ -1,0 +1,90 @@
+-- The lines of a rules file: without their ends, without those that are skipped, and each with the
+-- lines that continue it.
+use Rattle.std.specs.Prelude.{ℕ, ◌+◌, ◌-◌, Bool, false, ◌&&◌, ◌||◌, not, List, [], ◌∷◌, ◌++◌, length, take, Option, None, Some, ◌==◌, nat_le, slice_index, if◌then◌else◌}
+use Rattle.std.specs.List.{list_all}
+use Rattle.dsv_base.specs.Lines.{lines_of}
+use Rattle.authz_file.specs.declared.line.Line.{Line}
+use Rattle.authz_file.specs.declared.line.Line.TheVariants.{Head, Body, Stray}
+
+-- a blank is a space or a tab
+abbrev pub is_blank : ℕ → Bool
+is_blank b = b == 32 || b == 9
+
+-- without the blanks in front
+abbrev pub without_front : List ℕ → List ℕ
+without_front [] = []
+without_front (b ∷ bs) = if is_blank b then without_front bs else b ∷ bs
+
+-- without the blanks at the end
+abbrev pub without_back : List ℕ → List ℕ
+without_back [] = []
+without_back (b ∷ bs) = if list_all is_blank (b ∷ bs) then [] else b ∷ without_back bs
+
+-- without the blanks around
+abbrev pub trimmed : List ℕ → List ℕ
+trimmed text = without_back (without_front text)
+
+-- without a CR at the end
+abbrev pub without_return : List ℕ → List ℕ
+without_return text = if nat_le 1 (length text) && (slice_index text (length text - 1) == 13) then take (length text - 1) text else text
+
+-- a CR belongs to the line feed after it: the last part, which has none, keeps its own
+abbrev pub without_returns : List (List ℕ) → List (List ℕ)
+without_returns [] = []
+without_returns (last ∷ []) = last ∷ []
+without_returns (line ∷ next ∷ rest) = without_return line ∷ without_returns (next ∷ rest)
+
+-- the lines without their ends
+unfoldable pub file_lines : List ℕ → List (List ℕ)
+file_lines text = without_returns (lines_of text)
+
+-- the lines of what is left, if anything is
+abbrev pub lines_left : Option (List ℕ) → List (List ℕ)
+lines_left None = []
+lines_left (Some text) = file_lines text
+
+-- how much is left: more than nothing, where a text is left, if only an empty one
+abbrev pub left_size : Option (List ℕ) → ℕ
+left_size None = 0
+left_size (Some text) = length text + 1
+
+abbrev pub begins_with : ℕ → List ℕ → Bool
+begins_with byte [] = false
+begins_with byte (b ∷ bs) = b == byte
+
+-- blank lines and comments are skipped
+abbrev pub is_skipped : List ℕ → Bool
+is_skipped line = list_all is_blank line || begins_with 35 line
+
+-- it begins with a blank: where it isn't skipped, it continues a line
+abbrev pub is_indented : List ℕ → Bool
+is_indented line = begins_with 32 line || begins_with 9 line
+
+-- it begins with `[`
+abbrev pub is_head : List ℕ → Bool
+is_head line = begins_with 91 line
+
+-- what a line and those after it add to the line before them
+abbrev pub line_adds : List ℕ → List ℕ → List ℕ
+line_adds line more = if is_skipped line then more else if is_indented line then 32 ∷ without_front line ++ more else []
+
+-- what the lines that continue a line add to it, each after one blank, up to the next line that begins one
+unfoldable pub continued : List (List ℕ) → List ℕ
+continued [] = []
+continued (line ∷ rest) = line_adds line (continued rest)
+
+-- what a line is: nothing where it is skipped or continues another, which it may where one is `begun`
+abbrev pub line_gives : Bool → ℕ → List ℕ → List ℕ → List Line
+line_gives begun number line more =
+    if is_skipped line then [] else
+    if is_indented line then (if begun then [] else Stray number ∷ []) else
+    if is_head line then Head number line ∷ [] else Body number (line ++ more) ∷ []
+
+-- whether the next line may continue one: not at the start of the file, and not after the line of a section
+abbrev pub opens : Bool → List ℕ → Bool
+opens begun line = if is_skipped line || is_indented line then begun else not (is_head line)
+
+-- the lines that aren't skipped, each with those that continue it, numbered from the given number
+unfoldable pub joined_lines : Bool → ℕ → List (List ℕ) → List Line
+joined_lines begun number [] = []
+joined_lines begun number (line ∷ rest) = line_gives begun number line (continued rest) ++ joined_lines (opens begun line) (number + 1) rest

@@ -1,0 +1,147 @@
+ghost use Rattle.std.specs.Prelude.{◌≡◌, ◌+◌, ◌≤◌, ◌∷◌, ◌++◌, false, IfOk, OnOk, length, option_copied, option_to_list, None, Some};
+ghost use Rattle.authz_file.specs.Lines.{is_skipped, is_indented, is_head, file_lines, lines_left, left_size, continued, line_gives, opens, joined_lines};
+
+use crate::line::Line;
+use crate::text::{is_all_blank, without_front, without_return};
+use dsv_base::{Bytes, NoMemory, first_line};
+use std::alloc::Global;
+
+/// Whether it is blank or a comment.
+fn is_skipped(line: &[u8]) -> bool
+    ensures { result ≡ is_skipped line.now }
+{
+    if is_all_blank(line) {
+        return true;
+    }
+    match line {
+        [b'#', ..] => true,
+        _ => false,
+    }
+}
+
+/// Whether it begins with a blank.
+fn is_indented(line: &[u8]) -> bool
+    ensures { result ≡ is_indented line.now }
+{
+    match line {
+        [b' ' | b'\t', ..] => true,
+        _ => false,
+    }
+}
+
+/// Whether it begins with `[`.
+fn is_head(line: &[u8]) -> bool
+    ensures { result ≡ is_head line.now }
+{
+    match line {
+        [b'[', ..] => true,
+        _ => false,
+    }
+}
+
+/// The first line without its end, and what stands after it, unless it is the last.
+fn next_line(text: &[u8]) -> (&[u8], Option<&[u8]>)
+    ensures line { file_lines text.now ≡ result.0.now ∷ lines_left (option_copied result.1) }
+    ensures shorter { left_size (option_copied result.1) ≤ length text.now }
+{
+    match first_line(text) {
+        None => (text, None),
+        Some((line, after)) => (without_return(line), Some(after)),
+    }
+}
+
+/// The line together with those that continue it.
+#[tactic(auto, unfolding(crate::specs::Lines::continued))]
+fn with_continued(alloc: Global, line: &[u8], after: Option<&[u8]>) -> Result<Bytes, NoMemory>
+    ensures { IfOk result (λ text. text ≡ line.now ++ continued (lines_left (option_copied after.entry))) }
+{
+    let mut text = Vec::from_slice(alloc, line)?;
+    let mut rest = after;
+    'more: while let Some(left) = rest {
+        let (next, after_next) = next_line(left);
+        rest = after_next;
+        if is_skipped(next) {
+            continue;
+        }
+        if !is_indented(next) {
+            return Ok(Bytes::from_vec(text));
+        }
+        text.push(b' ')?;
+        text.extend_from_slice(without_front(next))?;
+    }
+    Ok(Bytes::from_vec(text))
+}
+
+/// What the line is, unless it is skipped or continues another, which it may where one is `begun`.
+fn line_gives(
+    alloc: Global,
+    begun: bool,
+    number: u32,
+    line: &[u8],
+    after: Option<&[u8]>,
+) -> Result<Option<Line>, NoMemory>
+    ensures { IfOk result (λ given. option_to_list given ≡ line_gives begun number line.now (continued (lines_left (option_copied after.entry)))) }
+{
+    if is_skipped(line) {
+        return Ok(None);
+    }
+    if is_indented(line) {
+        if begun {
+            return Ok(None);
+        }
+        return Ok(Some(Line::Stray { number }));
+    }
+    if is_head(line) {
+        let text = Bytes::of(alloc, line)?;
+        return Ok(Some(Line::Head { number, text }));
+    }
+    let text = with_continued(alloc, line, after)?;
+    Ok(Some(Line::Body { number, text }))
+}
+
+/// Whether the line after this one may continue one.
+fn opens(begun: bool, line: &[u8]) -> bool
+    ensures { result ≡ opens begun line.now }
+{
+    if is_skipped(line) {
+        return begun;
+    }
+    if is_indented(line) {
+        return begun;
+    }
+    !is_head(line)
+}
+
+fn push_line(lines: &mut Vec<Line>, given: Option<Line>) -> Result<(), NoMemory>
+    ensures { OnOk result (lines.new.items ≡ lines.old.items ++ option_to_list given) }
+{
+    match given {
+        None => Ok(()),
+        Some(line) => {
+            lines.push(line)?;
+            Ok(())
+        }
+    }
+}
+
+/// The lines of the file that aren't skipped, each with those that continue it. The one error is
+/// want of memory.
+#[tactic(auto, unfolding(crate::specs::Lines::joined_lines))]
+pub fn joined_lines(alloc: Global, bytes: &[u8]) -> Result<Vec<Line>, NoMemory>
+    requires { length bytes.now ≤ 268435456 }
+    ensures { IfOk result (λ lines. lines.items ≡ joined_lines false 1 (file_lines bytes.now)) }
+{
+    let mut lines = Vec::new(alloc);
+    let mut begun = false;
+    let mut number = 1u32;
+    let mut rest = Some(bytes);
+    'lines: while let Some(text) = rest {
+        let (line, after) = next_line(text);
+        let given = line_gives(alloc, begun, number, line, after)?;
+        push_line(&mut lines, given)?;
+        begun = opens(begun, line);
+        number += 1;
+        rest = after;
+    }
+    Ok(lines)
+}
