@@ -59,3 +59,12 @@ right_at rules name user path = option_or (right_in user (group rules (Some name
 -- the first right that is given at the path, at its parent and so on up to `/`; No where none is
 unfoldable pub access : List Rule → List ℕ → Option (List ℕ) → List ℕ → Right
 access rules name user path = slice_index_or (filter_map (right_at rules name user) (ancestors path)) 0 No
+
+abbrev pub gives_reading : Right → Bool
+gives_reading No = false
+gives_reading Read = true
+gives_reading Write = true
+
+-- the user may read the path
+unfoldable pub can_read : List Rule → List ℕ → Option (List ℕ) → List ℕ → Bool
+can_read rules name user path = gives_reading (access rules name user path)

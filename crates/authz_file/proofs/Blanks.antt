@@ -1,29 +1,15 @@
 -- Blanks at the end of a text, one by one.
-use Rattle.std.proofs.Common.{◌≡◌, ℕ, ◌-◌, ◌≤◌, Bool, true, false, ◌&&◌, List, [], ◌∷◌, ◌++◌, length, take, get_or, refl, sym, ap, ◌∙◌, arith}
+use Rattle.std.proofs.Common.{◌≡◌, ℕ, ◌-◌, ◌≤◌, true, false, List, [], ◌∷◌, ◌++◌, length, take, get_or, sym, ap, ◌∙◌, arith, refl}
 use Rattle.std.specs.Prelude.{if◌then◌else◌}
-use Rattle.std.specs.List.{list_all}
 use Rattle.std.proofs.lemmas.Grind.{common_steps}
 use Rattle.std.proofs.lemmas.List.{take-append-drop}
-use Rattle.std.proofs.lemmas.List.Folds.{list_all-append}
-use Rattle.authz_file.specs.Lines.{is_blank, without_back}
+use Rattle.dsv_base.specs.TextFiles.{is_blank}
+use Rattle.dsv_base.proofs.Blanks.{all_blank, not_blank}
+use Rattle.authz_file.specs.Lines.{without_back}
 
 -- a text and its last byte
 pub ends : (text : List ℕ) → 1 ≤ length text → text ≡ take (length text - 1) text ++ get_or text (length text - 1) 0 ∷ []
 ends text h = grind (arith, common_steps, take-append-drop (length text - 1) text)
-
-both_true : (b c : Bool) → c ≡ true → (b && (c && true)) ≡ b
-both_true true c h = rw h refl
-both_true false c h = refl
-
-both_false : (b c : Bool) → c ≡ false → (b && (c && true)) ≡ false
-both_false true c h = rw h refl
-both_false false c h = refl
-
-all_blank : (xs : List ℕ) (b : ℕ) → is_blank b ≡ true → list_all is_blank (xs ++ b ∷ []) ≡ list_all is_blank xs
-all_blank xs b h = list_all-append is_blank xs (b ∷ []) ∙ both_true (list_all is_blank xs) (is_blank b) h
-
-not_blank : (xs : List ℕ) (b : ℕ) → is_blank b ≡ false → list_all is_blank (xs ++ b ∷ []) ≡ false
-not_blank xs b h = list_all-append is_blank xs (b ∷ []) ∙ both_false (list_all is_blank xs) (is_blank b) h
 
 back_blank : (xs : List ℕ) (b : ℕ) → is_blank b ≡ true → without_back (xs ++ b ∷ []) ≡ without_back xs
 back_blank [] b h = ap (λ c. if c then [] else b ∷ []) (all_blank [] b h)

@@ -1,6 +1,5 @@
 pub mod Rows
 pub mod Blanks
-pub mod LineParts
 pub mod RepositoryCut
 pub mod Front
 pub mod LabelMap

@@ -7,6 +7,7 @@ use lib.Utf8.{encode}
 use Rattle.dsv_base.specs.Lines.{lines_of}
 use Rattle.dsv_base.specs.Paths.{is_path}
 use Rattle.dsv_base.specs.Names.{is_repository_name}
+use Rattle.dsv_base.specs.TextFiles.{file_lines}
 use Rattle.authz_file.specs.declared.rule.Rule.{Rule}
 use Rattle.authz_file.specs.declared.rules.Rules.{Rules}
 use Rattle.authz_file.specs.declared.base.Base.{Base}
@@ -15,7 +16,7 @@ use Rattle.authz_file.specs.declared.right.Right.{Right}
 use Rattle.authz_file.specs.declared.right.Right.TheVariants.{No, Read, Write}
 use Rattle.authz_file.specs.declared.rules_fault.RulesFault.{RulesFault}
 use Rattle.authz_file.specs.declared.rules_fault.RulesFault.TheVariants.{BadLine, BadSection, BadAccess, UnknownGroup, GroupCycle}
-use Rattle.authz_file.specs.Lines.{file_lines, continued, joined_lines}
+use Rattle.authz_file.specs.Lines.{continued, joined_lines}
 use Rattle.authz_file.specs.Words.{key_value, words_of, who_of, right_of}
 use Rattle.authz_file.specs.Sections.{section_path, split_repos, place_of, section_named}
 use Rattle.authz_file.specs.Entries.{group_entry, alias_entry, grant_entry, entry_at, entries_of, file_entries}

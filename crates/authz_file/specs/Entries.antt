@@ -1,6 +1,7 @@
 -- The entries of a file, in the order of their lines, or the first line that breaks the grammar.
 use Rattle.std.specs.Prelude.{ℕ, false, List, [], ◌∷◌, ◌++◌, Option, None, Some, Result, Ok, Err, ◌≡◌, if◌then◌else◌}
 use Rattle.dsv_base.specs.Gives.{◌>>=◌, Gives}
+use Rattle.dsv_base.specs.TextFiles.{file_lines}
 use Rattle.authz_file.specs.declared.entry.Entry.{Entry}
 use Rattle.authz_file.specs.declared.line.Line.{Line}
 use Rattle.authz_file.specs.declared.line.Line.TheVariants.{Head, Body, Stray}
@@ -10,7 +11,7 @@ use Rattle.authz_file.specs.declared.rules_fault.RulesFault.TheVariants.{BadLine
 use Rattle.authz_file.specs.declared.section.Section.{Section}
 use Rattle.authz_file.specs.declared.section.Section.TheVariants.{Groups, Aliases, At}
 use Rattle.authz_file.specs.Faults.{is_no_memory}
-use Rattle.authz_file.specs.Lines.{file_lines, joined_lines}
+use Rattle.authz_file.specs.Lines.{joined_lines}
 use Rattle.authz_file.specs.Sections.{section_of, place_name}
 use Rattle.authz_file.specs.Words.{key_value, words_of, is_user, is_negated, principal_of, who_of, own_words, right_of}
 

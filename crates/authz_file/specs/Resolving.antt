@@ -2,6 +2,7 @@
 use Rattle.std.specs.Prelude.{ℕ, ◌+◌, Bool, false, ◌||◌, List, [], ◌∷◌, Option, None, Some, Result, Ok, Err, is_some, nat_eq, if◌then◌else◌}
 use Rattle.std.specs.List.{cons_option}
 use Rattle.dsv_base.specs.Gives.{◌>>=◌}
+use Rattle.dsv_base.specs.TextFiles.{begins_with}
 use Rattle.authz_file.specs.declared.base.Base.{Base}
 use Rattle.authz_file.specs.declared.base.Base.TheVariants as bases
 use Rattle.authz_file.specs.declared.entry.Entry.{Entry}
@@ -12,7 +13,6 @@ use Rattle.authz_file.specs.declared.rules_fault.RulesFault.{RulesFault}
 use Rattle.authz_file.specs.declared.rules_fault.RulesFault.TheVariants.{UnknownGroup, UnknownAlias, GroupCycle}
 use Rattle.authz_file.specs.declared.who.Who.{Who}
 use Rattle.authz_file.specs.declared.who.Who.TheVariants as whos
-use Rattle.authz_file.specs.Lines.{begins_with}
 use Rattle.authz_file.specs.Words.{is_user}
 use Rattle.authz_file.specs.Groups.{place_of_label, targets, is_circular, names_at}
 use Rattle.authz_file.specs.Entries.{file_entries}

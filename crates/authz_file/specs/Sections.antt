@@ -3,10 +3,10 @@ use Rattle.std.specs.Prelude.{ℕ, ◌-◌, Bool, false, ◌&&◌, List, [], ◌
 use Rattle.std.specs.Str.{bytes_eq}
 use Rattle.dsv_base.specs.Paths.{is_path}
 use Rattle.dsv_base.specs.Names.{is_repository_name}
+use Rattle.dsv_base.specs.TextFiles.{begins_with}
 use Rattle.authz_file.specs.declared.place.Place.{Place}
 use Rattle.authz_file.specs.declared.section.Section.{Section}
 use Rattle.authz_file.specs.declared.section.Section.TheVariants.{Groups, Aliases, At}
-use Rattle.authz_file.specs.Lines.{begins_with}
 
 -- what stands between `[` at the front and `]` at the end
 abbrev pub bracketed : List ℕ → Option (List ℕ)

@@ -1,6 +1,7 @@
 ghost use Rattle.std.specs.Prelude.{◌≡◌, ◌<◌, ◌≤◌, ◌∷◌, [], false, length, IfOk, IfSome, IfNone, All, take, slice_index, option_copied, map};
 ghost use Rattle.std.specs.List.{slice_split};
-ghost use Rattle.authz_file.specs.Lines.{left_size, trimmed};
+ghost use Rattle.dsv_base.specs.TextFiles.{left_size};
+ghost use Rattle.authz_file.specs.Lines.{trimmed};
 ghost use Rattle.authz_file.specs.Words.{is_comma, items_left, words_if, words_of};
 
 use crate::text::trimmed;

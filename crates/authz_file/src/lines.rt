@@ -1,23 +1,11 @@
-ghost use Rattle.std.specs.Prelude.{◌≡◌, ◌+◌, ◌≤◌, ◌∷◌, ◌++◌, false, IfOk, OnOk, length, option_copied, option_to_list, None, Some};
-ghost use Rattle.authz_file.specs.Lines.{is_skipped, is_indented, is_head, file_lines, lines_left, left_size, continued, line_gives, opens, joined_lines};
+ghost use Rattle.std.specs.Prelude.{◌≡◌, ◌≤◌, ◌++◌, false, IfOk, OnOk, length, option_copied, option_to_list};
+ghost use Rattle.dsv_base.specs.TextFiles.{file_lines, lines_left};
+ghost use Rattle.authz_file.specs.Lines.{is_indented, is_head, continued, line_gives, opens, joined_lines};
 
 use crate::line::Line;
-use crate::text::{is_all_blank, without_front, without_return};
-use dsv_base::{Bytes, NoMemory, first_line};
+use crate::text::without_front;
+use dsv_base::{Bytes, NoMemory, is_skipped, next_line};
 use std::alloc::Global;
-
-/// Whether it is blank or a comment.
-fn is_skipped(line: &[u8]) -> bool
-    ensures { result ≡ is_skipped line.now }
-{
-    if is_all_blank(line) {
-        return true;
-    }
-    match line {
-        [b'#', ..] => true,
-        _ => false,
-    }
-}
 
 /// Whether it begins with a blank.
 fn is_indented(line: &[u8]) -> bool
@@ -36,17 +24,6 @@ fn is_head(line: &[u8]) -> bool
     match line {
         [b'[', ..] => true,
         _ => false,
-    }
-}
-
-/// The first line without its end, and what stands after it, unless it is the last.
-fn next_line(text: &[u8]) -> (&[u8], Option<&[u8]>)
-    ensures line { file_lines text.now ≡ result.0.now ∷ lines_left (option_copied result.1) }
-    ensures shorter { left_size (option_copied result.1) ≤ length text.now }
-{
-    match first_line(text) {
-        None => (text, None),
-        Some((line, after)) => (without_return(line), Some(after)),
     }
 }
 

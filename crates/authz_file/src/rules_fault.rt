@@ -1,5 +1,6 @@
 ghost use Rattle.std.specs.Prelude.{◌≡◌};
 ghost use Rattle.authz_file.specs.declared.rules_fault.RulesFault.TheVariants as faults;
+ghost use Rattle.authz_file.specs.Faults.{line_of};
 
 use dsv_base::NoMemory;
 use std::alloc::{AllocError, AllocFailed};
@@ -30,6 +31,23 @@ pub enum RulesFault {
     /// Want of memory.
     #[error("no memory")]
     NoMemory,
+}
+
+impl RulesFault {
+    /// The line that is named; want of memory names none.
+    pub fn line(self) -> Option<u32>
+        ensures { result ≡ line_of self }
+    {
+        match self {
+            RulesFault::BadLine { line }
+            | RulesFault::BadSection { line }
+            | RulesFault::BadAccess { line }
+            | RulesFault::UnknownGroup { line }
+            | RulesFault::UnknownAlias { line }
+            | RulesFault::GroupCycle { line } => Some(line),
+            RulesFault::NoMemory => None,
+        }
+    }
 }
 
 impl From<NoMemory> for RulesFault {

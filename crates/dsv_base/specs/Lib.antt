@@ -2,4 +2,5 @@ pub mod Gives
 pub mod Paths
 pub mod Names
 pub mod Lines
+pub mod TextFiles
 pub mod Numbers

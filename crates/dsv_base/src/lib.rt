@@ -19,6 +19,7 @@ mod rev;
 #[cfg(test)]
 mod tests;
 mod text;
+mod text_files;
 
 pub use bytes::Bytes;
 pub use decimal::read_decimal;
@@ -34,3 +35,4 @@ pub use path_fault::PathFault;
 pub use person::Person;
 pub use prop::Prop;
 pub use rev::Rev;
+pub use text_files::{is_all_blank, is_blank, is_skipped, next_line};

@@ -197,6 +197,26 @@ const LINES: [(&[u8], Option<(&[u8], &[u8])>); 5] = [
     (b"", None),
 ];
 
+/// A text file, its first line, and what stands after that.
+const FILES: [(&[u8], &[u8], Option<&[u8]>); 6] = [
+    (b"one\ntwo\n", b"one", Some(b"two\n")),
+    (b"one\r\n", b"one", Some(b"")),
+    (b"one\r\r\n", b"one\r", Some(b"")),
+    (b"one\rtwo\n", b"one\rtwo", Some(b"")),
+    (b"one\r", b"one\r", None),
+    (b"", b"", None),
+];
+
+/// A line without its end, whether it is blank, and whether it is skipped.
+const SKIPPED: [(&[u8], bool, bool); 6] = [
+    (b"", true, true),
+    (b" \t", true, true),
+    (b"# one", false, true),
+    (b" # one", false, false),
+    (b"one # two", false, false),
+    (b"\r", false, false),
+];
+
 #[test]
 fn texts(rt: HostRuntime) {
     'numbers: for (text, most, number) in &NUMBERS {
@@ -204,6 +224,13 @@ fn texts(rt: HostRuntime) {
     }
     'lines: for (text, cut) in &LINES {
         assert_eq!(&rt; first_line(text), *cut, "at {text:?}");
+    }
+    'files: for (text, line, after) in &FILES {
+        assert_eq!(&rt; next_line(text), (*line, *after), "at {text:?}");
+    }
+    'skipped: for (line, blank, skipped) in &SKIPPED {
+        assert_eq!(&rt; is_all_blank(line), *blank, "at {line:?}");
+        assert_eq!(&rt; is_skipped(line), *skipped, "at {line:?}");
     }
     assert_eq!(&rt;
         cut_at(b"a:b:c", b':'),

@@ -1,6 +1,7 @@
 use Rattle.std.proofs.Common.{◌≡◌, ◌≤◌, ◌+◌, ◌++◌, false, length}
 use Rattle.std.specs.Prelude.{option_copied}
-use Rattle.authz_file.specs.Lines.{file_lines, lines_left, left_size, joined_lines}
+use Rattle.dsv_base.specs.TextFiles.{file_lines, lines_left, left_size}
+use Rattle.authz_file.specs.Lines.{joined_lines}
 use Rattle.authz_file.proofs.lines.joined_lines.Given as goal
 
 -- the lines so far, and those of what is left

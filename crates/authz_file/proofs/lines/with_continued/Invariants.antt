@@ -1,6 +1,7 @@
 use Rattle.std.proofs.Common.{◌≡◌, ◌++◌}
 use Rattle.std.specs.Prelude.{option_copied}
-use Rattle.authz_file.specs.Lines.{continued, lines_left, left_size}
+use Rattle.dsv_base.specs.TextFiles.{lines_left, left_size}
+use Rattle.authz_file.specs.Lines.{continued}
 use Rattle.authz_file.proofs.lines.with_continued.Given as goal
 
 -- the text so far, and what the lines that are left add to it

@@ -2,7 +2,7 @@
 use Rattle.std.proofs.Common.{◌≡◌, ℕ, Bool, true, false, cond, List, [], ◌∷◌, refl, ap, sym, ◌∙◌}
 use Rattle.std.specs.List.{onto_first, slice_split}
 use Rattle.dsv_base.specs.Lines.{lines_of, is_line_feed}
-use Rattle.authz_file.specs.Lines.{file_lines, without_return, without_returns}
+use Rattle.dsv_base.specs.TextFiles.{file_lines, without_return, without_returns}
 
 -- a text has a first part
 parts_some : (text : List ℕ) → (next : List ℕ) × ((rest : List (List ℕ)) × (lines_of text ≡ next ∷ rest))

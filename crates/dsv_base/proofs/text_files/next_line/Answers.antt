@@ -1,5 +1,5 @@
-use Rattle.authz_file.proofs.LineParts.{file_lines-last, file_lines-first}
-use Rattle.authz_file.proofs.lines.next_line.Goals as goal
+use Rattle.dsv_base.proofs.LineParts.{file_lines-last, file_lines-first}
+use Rattle.dsv_base.proofs.text_files.next_line.Goals as goal
 
 pub returns-in-None-clause-line : goal.returns-in-None-clause-line
 returns-in-None-clause-line c = file_lines-last c.args.text.now c.in-None.ensures.cut
