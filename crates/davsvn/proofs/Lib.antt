@@ -1,9 +1,4 @@
-mod AccessGroups
-mod AccessRows
-mod AccessWalk
-mod RulesFront
-mod RulesOnce
-mod RulesRows
+mod OptionWords
 mod Shown
 mod TooLong
 mod RunLemmas

@@ -16,13 +16,12 @@ use Rattle.rev_trees.specs.Forests.{Numbered, ForestRevision, Forest, tree_of, w
 use Rattle.davsvn.specs.declared.refusal.Refusal.{Refusal}
 use Rattle.davsvn.specs.declared.refusal.Refusal.TheVariants.{NoNode}
 use Rattle.davsvn.specs.declared.resource.Resource.{Resource}
-use Rattle.davsvn.specs.declared.resource.Resource.TheVariants.{Rvr}
-use Rattle.davsvn.specs.declared.rule.Rule.{Rule}
-use Rattle.davsvn.specs.Access.{can_read}
+use Rattle.authz_file.specs.declared.rule.Rule.{Rule}
+use Rattle.authz_check.specs.Access.{can_read}
 use Rattle.davsvn.specs.States.{opening_state}
 use Rattle.davsvn.specs.Targets.{resource_of}
 use Rattle.davsvn.specs.Views.{View, shown_node, shown_nodes, shown_revision, no_revision, view_of, node_in}
-use Rattle.davsvn.specs.ReadReplies.{denied, or_no_node, node_shown, kind_reply, get_reply, method_reply, read_reply}
+use Rattle.davsvn.specs.ReadReplies.{denied, or_no_node, node_shown, node_shown_at, kind_reply, get_reply, method_reply, read_reply}
 use Rattle.davsvn.specs.Answers.{ShowsNode, shown_reply}
 
 -- a look-up among entries whose values were mapped
@@ -58,18 +57,18 @@ module _ (forest : Forest) (rules : List Rule) (user : Option (List ℕ)) (rev :
       mapped_twice None = refl
       mapped_twice (Some p) = refl
 
-  pub shown_denied : can_read rules forest.name user path ≡ false → node_shown (view_of (opening_state (repository_of forest) rules) user) user (Rvr rev path) ≡ Err (denied user)
-  unfolding node_shown view_of
+  pub shown_denied : can_read rules forest.name user path ≡ false → node_shown_at (view_of (opening_state (repository_of forest) rules) user) user rev path ≡ Err (denied user)
+  unfolding node_shown_at view_of
   shown_denied no_right = ap (λ b. (if b then Ok path else Err (denied user)) >>= (λ readable. or_no_node (node_in (view_of (opening_state (repository_of forest) rules) user) rev readable))) no_right
 
-  readable_is : can_read rules forest.name user path ≡ true → node_shown (view_of (opening_state (repository_of forest) rules) user) user (Rvr rev path) ≡ or_no_node (node_in (view_of (opening_state (repository_of forest) rules) user) rev path)
-  unfolding node_shown view_of
+  readable_is : can_read rules forest.name user path ≡ true → node_shown_at (view_of (opening_state (repository_of forest) rules) user) user rev path ≡ or_no_node (node_in (view_of (opening_state (repository_of forest) rules) user) rev path)
+  unfolding node_shown_at view_of
   readable_is right = ap (λ b. (if b then Ok path else Err (denied user)) >>= (λ readable. or_no_node (node_in (view_of (opening_state (repository_of forest) rules) user) rev readable))) right
 
-  pub shown_missing : can_read rules forest.name user path ≡ true → place_at forest rev path ≡ None → node_shown (view_of (opening_state (repository_of forest) rules) user) user (Rvr rev path) ≡ Err NoNode
+  pub shown_missing : can_read rules forest.name user path ≡ true → place_at forest rev path ≡ None → node_shown_at (view_of (opening_state (repository_of forest) rules) user) user rev path ≡ Err NoNode
   shown_missing right missing = readable_is right ∙ ap or_no_node (node_in-view right ∙ ap (option_map (λ (p : Numbered). shown_node (can_read rules forest.name user) p.here)) missing)
 
-  pub shown_found : (p : Numbered) → can_read rules forest.name user path ≡ true → place_at forest rev path ≡ Some p → node_shown (view_of (opening_state (repository_of forest) rules) user) user (Rvr rev path) ≡ Ok (shown_node (can_read rules forest.name user) p.here)
+  pub shown_found : (p : Numbered) → can_read rules forest.name user path ≡ true → place_at forest rev path ≡ Some p → node_shown_at (view_of (opening_state (repository_of forest) rules) user) user rev path ≡ Ok (shown_node (can_read rules forest.name user) p.here)
   shown_found p right found = readable_is right ∙ ap or_no_node (node_in-view right ∙ ap (option_map (λ (p : Numbered). shown_node (can_read rules forest.name user) p.here)) found)
 
 no_place : (o : Option Numbered) → option_map (λ (p : Numbered). p.id) o ≡ None → o ≡ None
@@ -103,10 +102,10 @@ reply_is view (Ok node) right h = (λ i. kind_reply (sym h.2 i).kind (sym h.2 i)
 reply_is view (Err refusal) right h = ap get_reply (sym h)
 
 -- the reply to a GET of a resource, by what is shown of it
-pub get_is : {N : Type 0} (node_of : N → Node) (given : Result N Refusal) (view : View) (user : Option (List ℕ)) (request : Request) (resource : Resource)
+pub get_is : {N : Type 0} (node_of : N → Node) (given : Result N Refusal) (view : View) (request : Request) (resource : Resource)
     → resource_of view.name request.target ≡ Some resource → bytes_eq request.method (codes "GET") ≡ true
-    → ShowsNode node_of given (node_shown view user resource) → shown_reply node_of given ≡ read_reply view user request
+    → ShowsNode node_of given (node_shown view request.login resource) → shown_reply node_of given ≡ read_reply view request
 unfolding read_reply
-get_is node_of given view user request resource named get shows =
-    reply_is node_of given (node_shown view user resource) shows
-    ∙ sym (ap (option_and_then (method_reply request.method view user)) named ∙ ap (λ b. if b then get_reply (node_shown view user resource) else None) get)
+get_is node_of given view request resource named get shows =
+    reply_is node_of given (node_shown view request.login resource) shows
+    ∙ sym (ap (option_and_then (method_reply view request)) named ∙ ap (λ b. if b then get_reply (node_shown view request.login resource) else None) get)

@@ -1,5 +1,3 @@
-pub mod Access
-pub mod Rules
 pub mod AdapterStates
 pub mod States
 pub mod Views
@@ -8,7 +6,10 @@ pub mod Refusals
 pub mod Replies
 pub mod ReadReplies
 pub mod Answers
+pub mod Options
 pub mod Commands
+pub mod Words
+pub mod Asking
 pub mod Opening
 pub mod Inputs
 pub mod Runs

@@ -15,16 +15,22 @@ use Rattle.davsvn.specs.declared.refusal.Refusal.TheVariants.{NeedsLogin, Denied
 use Rattle.davsvn.specs.declared.reply.Reply.{Reply}
 use Rattle.davsvn.specs.declared.resource.Resource.{Resource}
 use Rattle.davsvn.specs.declared.resource.Resource.TheVariants.{Rvr}
-use Rattle.davsvn.specs.Access.{can_read}
+use Rattle.authz_check.specs.Access.{can_read}
 use Rattle.davsvn.specs.Views.{View, node_in}
 use Rattle.davsvn.specs.Targets.{resource_of}
 use Rattle.davsvn.specs.Replies.{refusal_reply, file_reply}
 
--- the name of who is logged in
-abbrev pub user_of : Login → Option (List ℕ)
-user_of Nobody = None
-user_of (User person) = Some person.name
-user_of Wrong = None
+-- whose rights count: a wrong login shows no more than none does
+abbrev pub viewer : Login → Option (List ℕ)
+viewer Nobody = None
+viewer (User person) = Some person.name
+viewer Wrong = None
+
+-- a wrong login is refused before anything is looked at
+abbrev pub by_login : Login → Result (Option (List ℕ)) Refusal
+by_login Nobody = Ok None
+by_login (User person) = Ok (Some person.name)
+by_login Wrong = Err NeedsLogin
 
 abbrev pub denied : Option (List ℕ) → Refusal
 denied None = NeedsLogin
@@ -38,11 +44,17 @@ abbrev pub or_no_node : Option TreeNode → Result TreeNode Refusal
 or_no_node None = Err NoNode
 or_no_node (Some found) = Ok found
 
--- the node that a GET shows, or the first refusal that holds: rule, then node
-unfoldable pub node_shown : View → Option (List ℕ) → Resource → Result TreeNode Refusal
-node_shown view user (Rvr rev path) = do
+-- the node that a user is shown at a path of a revision, or the first refusal that holds: rule, then node
+unfoldable pub node_shown_at : View → Option (List ℕ) → ℕ → List ℕ → Result TreeNode Refusal
+node_shown_at view user rev path = do
   readable ← by_rule view user path
   or_no_node (node_in view rev readable)
+
+-- .. and the login before both
+unfoldable pub node_shown : View → Login → Resource → Result TreeNode Refusal
+node_shown view login (Rvr rev path) = do
+  user ← by_login login
+  node_shown_at view user rev path
 
 -- a file's text; as yet a directory isn't listed
 abbrev pub kind_reply : Kind → List ℕ → Option Reply
@@ -54,12 +66,11 @@ get_reply (Ok found) = kind_reply found.node.kind found.node.text
 get_reply (Err refusal) = Some (refusal_reply refusal)
 
 -- the reply by method: as yet only GET is answered
-abbrev pub method_reply : List ℕ → View → Option (List ℕ) → Resource → Option Reply
-method_reply method view user resource =
-    if bytes_eq method (codes "GET") then get_reply (node_shown view user resource) else None
+abbrev pub method_reply : View → Request → Resource → Option Reply
+method_reply view request resource =
+    if bytes_eq request.method (codes "GET") then get_reply (node_shown view request.login resource) else None
 
 -- the reply to a request, where it is one that is answered as yet: a GET of anything but a readable
 -- directory; the target is read before the method
-unfoldable pub read_reply : View → Option (List ℕ) → Request → Option Reply
-read_reply view user request =
-    option_and_then (method_reply request.method view user) (resource_of view.name request.target)
+unfoldable pub read_reply : View → Request → Option Reply
+read_reply view request = option_and_then (method_reply view request) (resource_of view.name request.target)

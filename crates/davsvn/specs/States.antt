@@ -1,7 +1,7 @@
 -- The state of the repository machine.
 use Rattle.std.specs.Prelude.{ℕ, List}
 use Rattle.rev_trees.specs.Trees.{Revision, Repository}
-use Rattle.davsvn.specs.declared.rule.Rule.{Rule}
+use Rattle.authz_file.specs.declared.rule.Rule.{Rule}
 
 -- the repository and the rules; as yet there are no transactions and no locks
 pub record State : Type 0 where

@@ -7,8 +7,8 @@ use Rattle.std.specs.List.{filter_map}
 use Rattle.dsv_base.specs.Paths.{parent_text}
 use Rattle.rev_trees.specs.declared.kind.Kind.{Kind}
 use Rattle.rev_trees.specs.Trees.{TreeNode, Tree, at, Revision}
-use Rattle.davsvn.specs.declared.rule.Rule.{Rule}
-use Rattle.davsvn.specs.Access.{can_read}
+use Rattle.authz_file.specs.declared.rule.Rule.{Rule}
+use Rattle.authz_check.specs.Access.{can_read}
 use Rattle.davsvn.specs.States.{State}
 
 -- the source of a copy is shown only where it is readable

@@ -1,26 +1,26 @@
 ghost use Rattle.std.specs.Prelude.{◌≡◌, IfOk};
 ghost use Rattle.std.specs.Option.{option_copied};
+ghost use Rattle.authz_check.specs.Access.{can_read};
 ghost use Rattle.rev_trees.specs.Forests.{repository_of};
-ghost use Rattle.davsvn.specs.declared.resource.Resource.TheVariants.{Rvr};
 ghost use Rattle.davsvn.specs.States.{opening_state};
 ghost use Rattle.davsvn.specs.Views.{view_of};
 ghost use Rattle.davsvn.specs.Replies.{file_reply};
-ghost use Rattle.davsvn.specs.ReadReplies.{read_reply, method_reply, node_shown, kind_reply, user_of, denied};
+ghost use Rattle.davsvn.specs.ReadReplies.{read_reply, method_reply, node_shown, node_shown_at, kind_reply, viewer, denied};
 ghost use Rattle.davsvn.specs.Answers.{ShowsNode, shown_reply};
 
-use crate::access::can_read;
 use crate::refusal::Refusal;
 use crate::refusals::{content_type, refusal_reply};
 use crate::reply::Reply;
 use crate::resource::Resource;
-use crate::rules::Rules;
 use crate::target::resource_of;
+use authz_check::Policy;
+use authz_file::Right;
 use dsv_base::{Bytes, List, NoMemory, Path, Rev};
 use http_front::{Login, Request};
 use rev_trees::{Kind, Node, Trees};
 use std::alloc::Global;
 
-/// The reply to a request, by what the trees and the rules show to the user who sent it: none where
+/// The reply to a request, by what the trees and the policy show to the user who sent it: none where
 /// it is a request that isn't answered as yet.
 ///
 /// # Errors
@@ -29,10 +29,11 @@ use std::alloc::Global;
 pub fn read_reply(
     alloc: Global,
     trees: &Trees,
-    rules: &Rules,
+    policy: &Policy,
     request: &Request,
 ) -> Result<Option<Reply>, NoMemory>
-    ensures { IfOk result (λ reply. reply ≡ read_reply (view_of (opening_state (repository_of trees.now) rules.now.list) (user_of request.now.login)) (user_of request.now.login) request.now) }
+    requires { policy.now.name ≡ trees.now.name }
+    ensures { IfOk result (λ reply. reply ≡ read_reply (view_of (opening_state (repository_of trees.now) policy.now.rules) (viewer request.now.login)) request.now) }
 {
     let Some(resource) = resource_of(alloc, trees.name(), request.target.get())? else {
         return Ok(None);
@@ -40,31 +41,26 @@ pub fn read_reply(
     if request.method.get() != b"GET".as_slice() {
         return Ok(None);
     }
-    let user = user_of(&request.login);
-    get_reply(alloc, node_shown(trees, rules, user, &resource))
+    get_reply(alloc, node_shown(trees, policy, &request.login, &resource))
 }
 
-/// The name of who is logged in.
-fn user_of(login: &Login) -> Option<&[u8]>
-    ensures { option_copied result ≡ user_of login.now }
-{
-    match login {
-        Login::User(person) => Some(person.name.get()),
-        Login::Nobody | Login::Wrong => None,
-    }
-}
-
-/// The node that a GET of the resource shows, or the first refusal that holds.
+/// The node that a GET of the resource shows, or the first refusal that holds. A wrong login is
+/// refused before anything is looked at.
+#[tactic(auto, unfolding(crate::specs::ReadReplies::node_shown))]
 fn node_shown<'a>(
     trees: &'a Trees,
-    rules: &Rules,
-    user: Option<&[u8]>,
+    policy: &Policy,
+    login: &Login,
     resource: &Resource,
 ) -> Result<&'a Node, Refusal>
-    ensures { ShowsNode (λ n. n.now) result (node_shown (view_of (opening_state (repository_of trees.now) rules.now.list) (option_copied user.entry)) (option_copied user.entry) resource.now) }
+    requires { policy.now.name ≡ trees.now.name }
+    ensures { ShowsNode (λ n. n.now) result (node_shown (view_of (opening_state (repository_of trees.now) policy.now.rules) (viewer login.now)) login.now resource.now) }
 {
-    match resource {
-        Resource::Rvr(rev, path) => node_at(trees, rules, user, *rev, path),
+    let Resource::Rvr(rev, path) = resource;
+    match login {
+        Login::Nobody => node_at(trees, policy, None, *rev, path),
+        Login::User(person) => node_at(trees, policy, Some(person.name.get()), *rev, path),
+        Login::Wrong => Err(Refusal::NeedsLogin),
     }
 }
 
@@ -72,14 +68,15 @@ fn node_shown<'a>(
 /// reader without the right learns nothing of what is there.
 fn node_at<'a>(
     trees: &'a Trees,
-    rules: &Rules,
+    policy: &Policy,
     user: Option<&[u8]>,
     rev: Rev,
     path: &Path,
 ) -> Result<&'a Node, Refusal>
-    ensures { ShowsNode (λ n. n.now) result (node_shown (view_of (opening_state (repository_of trees.now) rules.now.list) (option_copied user.entry)) (option_copied user.entry) (Rvr rev path.now)) }
+    requires { policy.now.name ≡ trees.now.name }
+    ensures { ShowsNode (λ n. n.now) result (node_shown_at (view_of (opening_state (repository_of trees.now) policy.now.rules) (option_copied user.entry)) (option_copied user.entry) rev path.now) }
 {
-    if !can_read(rules, trees.name(), user, path) {
+    if !can_read(policy, user, path) {
         return Err(denied(user));
     }
     if rev.get() > trees.youngest().get() {
@@ -88,6 +85,17 @@ fn node_at<'a>(
     match trees.look(rev, path) {
         Some(id) => Ok(trees.node(id)),
         None => Err(Refusal::NoNode),
+    }
+}
+
+/// Whether the user may read the path.
+#[tactic(auto, unfolding(authz_check::specs::Access::can_read))]
+fn can_read(policy: &Policy, user: Option<&[u8]>, path: &Path) -> bool
+    ensures { result ≡ can_read policy.now.rules policy.now.name (option_copied user.entry) path.now }
+{
+    match policy.access(user, path) {
+        Right::No => false,
+        Right::Read | Right::Write => true,
     }
 }
 

@@ -3,12 +3,12 @@ use dsv_base::Bytes;
 /// How a run ended.
 #[derive(Debug, Drop)]
 pub enum End {
-    /// The request was answered.
+    /// What was asked for is done.
     Well,
     /// The words are none of the program's.
     Usage,
-    /// A file or the input isn't in its first form, or a readable directory was asked for.
-    NotFirst,
+    /// The file of this name breaks its grammar, and this line first.
+    BadFile(Bytes, u32),
     /// The source couldn't be read.
     ReadFault,
     /// The sink couldn't be written.
@@ -16,4 +16,8 @@ pub enum End {
     /// The file of this name couldn't be read.
     FileFault(Bytes),
     NoMemory,
+    /// The right isn't the one that was expected.
+    OtherRight,
+    /// The script or the input isn't in its first form, or a readable directory was asked for.
+    NotFirst,
 }

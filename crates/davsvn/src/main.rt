@@ -1,18 +1,17 @@
-//! davsvn: Subversion's HTTP server as a proved program. As yet it answers one GET.
+//! davsvn: Subversion's HTTP server as a proved program. As yet it answers one GET, and questions
+//! on the rights that a rules file gives.
 #![tactic(auto)]
 
-mod access;
-#[cfg(test)]
-mod access_tests;
 #[cfg(test)]
 mod adapter_tests;
 mod answer;
-mod base;
+mod asking;
+mod command;
 mod disk_files;
 mod end;
-mod file_read;
 mod filled;
 mod opening;
+mod options;
 mod pipe;
 mod reading;
 mod receive;
@@ -22,17 +21,15 @@ mod refusals;
 mod reply;
 mod reply_bytes;
 mod resource;
-mod right;
-mod rule;
-mod rules;
-mod rules_fault;
-mod rules_reader;
 mod run;
 #[cfg(test)]
 mod run_tests;
 mod status;
 mod target;
+mod unread;
+mod verb;
 mod words;
+mod work;
 mod world;
 mod writing;
 

@@ -14,7 +14,7 @@ const MOST_BYTES: usize = 16_384;
 /// Reads the source to its end, or to more bytes than a message has. What it gives has to be one
 /// request.
 pub fn receive<S: Source>(alloc: Global, source: &mut S, users: &Users) -> Received
-    ensures bytes { Receives (S.left source.old) (S.over source.new) result }
+    ensures bytes { Receives users.now (S.left source.old) (S.over source.new) result }
     ensures cause { HasCause (S.faults source.old) (S.faults source.new) (is_failed_receive result) }
 {
     let mut front = Front::new(alloc);
@@ -28,7 +28,7 @@ pub fn receive<S: Source>(alloc: Global, source: &mut S, users: &Users) -> Recei
 
 /// The one request that the front has, after which nothing comes.
 fn whole(front: &mut Front, users: &Users) -> Received
-    ensures { JudgesFront front.old result }
+    ensures { JudgesFront users.now front.old result }
 {
     match front.next(users) {
         Next::Request(request) => Received::Request(request),

@@ -24,23 +24,25 @@ put 6 3
 end
 ";
 
-const RULES: &[u8] = b"[/]\n* = r\n[/sec]\n* =\n";
+const RULES: &[u8] = b"[/]
+* = r
+alice = rw
+[/sec]
+* =
+alice = rw
+[/sec/open]
+bob = r
+";
 
-const WORDS: [&[u8]; 7] = [
-    b"pipe",
-    b"--script",
-    b"script",
-    b"--rules",
-    b"rules",
-    b"--users",
-    b"users",
-];
+const USERS: &[u8] = b"alice:apw\nbob:bpw\n";
 
-/// A run of `pipe`: the words, the request, the files, the calls of source and sink that fail, and what
+const PIPE: &[u8] = b"pipe --script script --rules rules --users users";
+
+/// A run: the words, each followed by one blank or the end, the request, the files, the calls of source and sink that fail, and what
 /// must come of it.
 #[derive(Clone, Copy)]
 struct Row {
-    words: &'static [&'static [u8]],
+    words: &'static [u8],
     request: &'static [u8],
     script: &'static [u8],
     rules: Option<&'static [u8]>,
@@ -54,11 +56,11 @@ struct Row {
 
 /// A GET of `/pub/a`, which is answered.
 const TEXT: Row = Row {
-    words: &WORDS,
+    words: PIPE,
     request: b"GET /svn/demo/!svn/rvr/1/pub/a HTTP/1.1\r\n\r\n",
     script: SCRIPT,
     rules: Some(RULES),
-    users: Some(b""),
+    users: Some(USERS),
     source_fails: &[],
     sink_fails: &[],
     status: 0,
@@ -90,22 +92,73 @@ Content-Length: 167\r
 <D:error xmlns:D=\"DAV:\" xmlns:m=\"http://apache.org/dav/xmlns\"><m:human-readable errcode=\"8\">NoNode</m:human-readable></D:error>
 ";
 
-const ROWS: [Row; 14] = [
-    TEXT,
-    Row {
-        request: b"GET /svn/demo/!svn/rvr/1/sec/k HTTP/1.1\r\n\r\n",
-        output: UNAUTHORIZED,
-        ..TEXT
-    },
+const FORBIDDEN: &[u8] = b"HTTP/1.1 403 Forbidden\r
+Content-Type: text/xml; charset=\"utf-8\"\r
+Content-Length: 167\r
+\r
+<?xml version=\"1.0\" encoding=\"utf-8\"?>
+<D:error xmlns:D=\"DAV:\" xmlns:m=\"http://apache.org/dav/xmlns\"><m:human-readable errcode=\"6\">Denied</m:human-readable></D:error>
+";
+
+const SECRET: &[u8] = b"HTTP/1.1 200 OK\r
+Content-Type: text/plain\r
+Content-Length: 3\r
+\r
+key";
+
+const USAGE: Row = Row {
+    status: 1,
+    output: b"",
+    line: b"davsvn: usage\n",
+    ..TEXT
+};
+
+/// Requests and the bytes that they are answered with.
+const GETS: [(&[u8], &[u8]); 8] = [
+    (
+        b"GET /svn/demo/!svn/rvr/1/sec/k HTTP/1.1\r\n\r\n",
+        UNAUTHORIZED,
+    ),
     // a hidden path that is missing is answered like one that is there
+    (
+        b"GET /svn/demo/!svn/rvr/1/sec/zzz HTTP/1.1\r\n\r\n",
+        UNAUTHORIZED,
+    ),
+    // .. to a user, too, who here is bob
+    (
+        b"GET /svn/demo/!svn/rvr/1/sec/k HTTP/1.1\r\nAuthorization: Basic Ym9iOmJwdw==\r\n\r\n",
+        FORBIDDEN,
+    ),
+    (
+        b"GET /svn/demo/!svn/rvr/1/sec/zzz HTTP/1.1\r\nAuthorization: Basic Ym9iOmJwdw==\r\n\r\n",
+        FORBIDDEN,
+    ),
+    // alice may read it
+    (
+        b"GET /svn/demo/!svn/rvr/1/sec/k HTTP/1.1\r\nAuthorization: Basic YWxpY2U6YXB3\r\n\r\n",
+        SECRET,
+    ),
+    // a wrong login is refused, though everyone may read the path
+    (
+        b"GET /svn/demo/!svn/rvr/1/pub/a HTTP/1.1\r\nAuthorization: Basic YWxpY2U6YnB3\r\n\r\n",
+        UNAUTHORIZED,
+    ),
+    (
+        b"GET /svn/demo/!svn/rvr/1/pub/zzz HTTP/1.1\r\n\r\n",
+        NOT_FOUND,
+    ),
+    // below a readable file is nothing
+    (
+        b"GET /svn/demo/!svn/rvr/1/pub/a/b HTTP/1.1\r\n\r\n",
+        NOT_FOUND,
+    ),
+];
+
+const PIPE_ROWS: [Row; 13] = [
+    TEXT,
+    // the options in another order
     Row {
-        request: b"GET /svn/demo/!svn/rvr/1/sec/zzz HTTP/1.1\r\n\r\n",
-        output: UNAUTHORIZED,
-        ..TEXT
-    },
-    Row {
-        request: b"GET /svn/demo/!svn/rvr/1/pub/zzz HTTP/1.1\r\n\r\n",
-        output: NOT_FOUND,
+        words: b"pipe --users users --script script --rules rules",
         ..TEXT
     },
     // a directory
@@ -118,8 +171,45 @@ const ROWS: [Row; 14] = [
         ..NOT_FIRST
     },
     Row {
-        rules: Some(b"[/]\n* = rw\n"),
+        script: b"davsvn-script 2\n",
         ..NOT_FIRST
+    },
+    // the script is checked before the rules are read
+    Row {
+        script: b"davsvn-script 2\n",
+        rules: None,
+        ..NOT_FIRST
+    },
+    // a group that holds itself
+    Row {
+        rules: Some(b"[groups]\na = @b\nb = @a\n"),
+        status: 2,
+        output: b"",
+        line: b"davsvn: rules: line 2\n",
+        ..TEXT
+    },
+    Row {
+        users: Some(b"alice:apw\nbob\n"),
+        status: 2,
+        output: b"",
+        line: b"davsvn: users: line 2\n",
+        ..TEXT
+    },
+    // the rules are checked before the users are read
+    Row {
+        rules: Some(b"[/]\n@c = r\n"),
+        users: None,
+        status: 2,
+        output: b"",
+        line: b"davsvn: rules: line 2\n",
+        ..TEXT
+    },
+    Row {
+        source_fails: &[0],
+        status: 4,
+        output: b"",
+        line: b"davsvn: read fault\n",
+        ..TEXT
     },
     Row {
         sink_fails: &[0],
@@ -142,41 +232,93 @@ const ROWS: [Row; 14] = [
         line: b"davsvn: file fault: users\n",
         ..TEXT
     },
-    // the script is checked before the rules are read
-    Row {
-        script: b"davsvn-script 2\n",
-        rules: None,
-        ..NOT_FIRST
-    },
-    Row {
-        source_fails: &[0],
-        status: 4,
-        output: b"",
-        line: b"davsvn: read fault\n",
-        ..TEXT
-    },
+];
+
+/// Words of no command.
+const NO_COMMANDS: [&[u8]; 12] = [
+    b"",
+    b"pipe",
     // a file's name isn't empty
+    b"pipe --script script --rules  --users users",
+    // an option is given twice
+    b"pipe --script script --rules rules --users users --users users",
+    // another word after the options
+    b"pipe --script script --rules rules --users users more",
+    // no path
+    b"accessof --rules rules --repos demo",
+    // a path doesn't end with a slash
+    b"accessof --rules rules --repos demo /a/",
+    // an option after the path
+    b"accessof --rules rules --repos demo /a --recursive",
+    b"accessof --is w --rules rules --repos demo /a",
+    b"accessof --repos .. --rules rules /a",
+    // an option of the other command
+    b"accessof --users users --rules rules --repos demo /a",
+    b"access --rules rules --repos demo /a",
+];
+
+/// The words of a question on bob's right at `/sec/open/x`, which is to read.
+const ASK: Row = Row {
+    words: b"accessof --rules rules --repos demo --user bob /sec/open/x",
+    output: b"r\n",
+    ..TEXT
+};
+
+const ASK_ROWS: [Row; 10] = [
+    ASK,
     Row {
-        words: &[
-            b"pipe",
-            b"--script",
-            b"script",
-            b"--rules",
-            b"",
-            b"--users",
-            b"users",
-        ],
-        status: 1,
-        output: b"",
-        line: b"davsvn: usage\n",
-        ..TEXT
+        words: b"accessof --user bob --repos demo --rules rules /sec",
+        output: b"no\n",
+        ..ASK
     },
     Row {
-        words: &[b"pipe"],
-        status: 1,
+        words: b"accessof --rules rules --repos demo --user bob --recursive /",
+        output: b"no\n",
+        ..ASK
+    },
+    Row {
+        words: b"accessof --recursive --rules rules --repos demo --user alice /sec",
+        output: b"rw\n",
+        ..ASK
+    },
+    // nobody is logged in
+    Row {
+        words: b"accessof --rules rules --repos demo /pub",
+        ..ASK
+    },
+    // the right isn't the one that was expected: it is printed all the same
+    Row {
+        words: b"accessof --is r --rules rules --repos demo --user bob /sec",
+        status: 9,
+        output: b"no\n",
+        ..ASK
+    },
+    Row {
+        words: b"accessof --is no --rules rules --repos demo --user bob /sec",
+        output: b"no\n",
+        ..ASK
+    },
+    Row {
+        sink_fails: &[0],
+        status: 5,
         output: b"",
-        line: b"davsvn: usage\n",
-        ..TEXT
+        line: b"davsvn: write fault\n",
+        ..ASK
+    },
+    Row {
+        rules: None,
+        status: 6,
+        output: b"",
+        line: b"davsvn: file fault: rules\n",
+        ..ASK
+    },
+    // a name that no line defines
+    Row {
+        rules: Some(b"[/]\n@c = r\n"),
+        status: 2,
+        output: b"",
+        line: b"davsvn: rules: line 2\n",
+        ..ASK
     },
 ];
 
@@ -208,12 +350,16 @@ fn world_of<R: AllocGlobal>(rt: &R, row: &Row) -> Result<MemWorld, Fail> {
     })
 }
 
-fn words_of<R: AllocGlobal>(rt: &R, words: &[&[u8]]) -> Result<Vec<Bytes>, Fail> {
-    let mut list = Vec::new(rt.alloc());
-    for word in words {
-        list.push(bytes_of(rt, word)?)?;
+/// The words of a line; an empty line has none.
+fn words_of<R: AllocGlobal>(rt: &R, line: &[u8]) -> Result<Vec<Bytes>, Fail> {
+    let mut words = Vec::new(rt.alloc());
+    if line.is_empty() {
+        return Ok(words);
     }
-    Ok(list)
+    for word in line.split(|b| *b == b' ') {
+        words.push(bytes_of(rt, word)?)?;
+    }
+    Ok(words)
 }
 
 fn check_row<R: Abort + AllocGlobal>(rt: &R, row: &Row) -> Result<(), Fail> {
@@ -227,9 +373,39 @@ fn check_row<R: Abort + AllocGlobal>(rt: &R, row: &Row) -> Result<(), Fail> {
 }
 
 #[test]
+fn replies(rt: HostRuntime) -> Result<(), Fail> {
+    for (request, output) in GETS {
+        let row = Row {
+            request,
+            output,
+            ..TEXT
+        };
+        check_row(&rt, &row)?;
+    }
+    Ok(())
+}
+
+#[test]
 fn runs_of_pipe(rt: HostRuntime) -> Result<(), Fail> {
-    for row in &ROWS {
+    for row in &PIPE_ROWS {
         check_row(&rt, row)?;
+    }
+    Ok(())
+}
+
+#[test]
+fn runs_of_accessof(rt: HostRuntime) -> Result<(), Fail> {
+    for row in &ASK_ROWS {
+        check_row(&rt, row)?;
+    }
+    Ok(())
+}
+
+#[test]
+fn words_of_no_command(rt: HostRuntime) -> Result<(), Fail> {
+    for words in NO_COMMANDS {
+        let row = Row { words, ..USAGE };
+        check_row(&rt, &row)?;
     }
     Ok(())
 }

@@ -18,10 +18,12 @@ pub fn status_of(end: &End) -> Status
     match end {
         End::Well => Status(0),
         End::Usage => Status(1),
+        End::BadFile(..) => Status(2),
         End::ReadFault => Status(4),
         End::WriteFault => Status(5),
         End::FileFault(_) => Status(6),
         End::NoMemory => Status(8),
+        End::OtherRight => Status(9),
         End::NotFirst => Status(13),
     }
 }
@@ -30,7 +32,7 @@ pub fn status_of(end: &End) -> Status
 pub fn put_line<E: Sink>(alloc: Global, end: &End, errors: &mut E)
     ensures { TookLine (E.taken errors.old) (E.taken errors.new) (line_of end.now) (Rose (E.faults errors.old) (E.faults errors.new)) }
 {
-    if let End::Well = end {
+    if let End::Well | End::OtherRight = end {
         return;
     }
     let line = match line_of(alloc, end) {
@@ -45,8 +47,16 @@ fn line_of(alloc: Global, end: &End) -> Result<Vec<u8>, NoMemory>
 {
     let mut line = Vec::new(alloc);
     match end {
-        End::Well => {}
+        End::Well | End::OtherRight => {}
         End::Usage => line.extend_from_slice(b"davsvn: usage\n")?,
+        End::BadFile(name, number) => {
+            let number = format!(in alloc; "{number}")?;
+            line.extend_from_slice(b"davsvn: ")?;
+            line.extend_from_slice(name.get())?;
+            line.extend_from_slice(b": line ")?;
+            line.extend_from_slice(number.as_bytes())?;
+            line.extend_from_slice(b"\n")?;
+        }
         End::ReadFault => line.extend_from_slice(b"davsvn: read fault\n")?,
         End::WriteFault => line.extend_from_slice(b"davsvn: write fault\n")?,
         End::FileFault(name) => {

@@ -8,8 +8,11 @@ use Rattle.httparse.specs.declared.spans.HeaderSpan.{HeaderSpan}
 use Rattle.httparse.specs.declared.spans.RequestSpans.{RequestSpans}
 use Rattle.dsv_base.specs.declared.field.Field.{Field}
 use Rattle.http_front.specs.declared.request.Request.{Request}
-use Rattle.http_front.specs.Messages.{IsFirstMessage, IsNeverFirst, begins_with_line_end, has_unread_field, field_of_line}
-use Rattle.http_front.specs.Spans.{field_at, request_at}
+use Rattle.http_front.specs.declared.user.User.{User}
+use Rattle.http_front.specs.Fields.{field_of_line}
+use Rattle.http_front.specs.Logins.{login_of}
+use Rattle.http_front.specs.Messages.{IsFirstMessage, IsNeverFirst, begins_with_line_end, has_unread_field}
+use Rattle.http_front.specs.Spans.{field_at, fields_at, request_at}
 use Rattle.http_front.proofs.FirstMessages.{no_line_before, never_with_rest, never_of_version, never_with_unread_field}
 
 abbrev pub pair_field : List ℕ × List ℕ → Field
@@ -24,34 +27,33 @@ lines_fields [] = refl
 lines_fields (l ∷ ls) = ap (λ fields. field_of_line l ∷ fields) (lines_fields ls)
 
 -- the fields that the offsets cover are those of the head
-pub fields_at : (bytes : List ℕ) (headers : List HeaderSpan) (spans : RequestSpans) (h : RequestHead) → IsRequestAt bytes headers spans h → map (field_at bytes) (take spans.headers headers) ≡ map field_of_line h.fields
-fields_at bytes headers spans h at =
+pub fields_of_head : (bytes : List ℕ) (headers : List HeaderSpan) (spans : RequestSpans) (h : RequestHead) → IsRequestAt bytes headers spans h → fields_at bytes headers spans ≡ map field_of_line h.fields
+fields_of_head bytes headers spans h at =
     sym (spans_fields bytes (take spans.headers headers)) ∙ ap (map pair_field) at.fields ∙ lines_fields h.fields
 
-all_false : (a b c d : Bool) → (a || b || c || d) ≡ false → (a ≡ false) × (b ≡ false) × (c ≡ false) × (d ≡ false)
-all_false true b c d h = cc
-all_false false true c d h = cc
-all_false false false true d h = cc
-all_false false false false d h = (refl, refl, refl, h)
+all_false : (a b c : Bool) → (a || b || c) ≡ false → (a ≡ false) × (b ≡ false) × (c ≡ false)
+all_false true b c h = cc
+all_false false true c h = cc
+all_false false false c h = (refl, refl, h)
 
-module _ (bytes : List ℕ) (headers : List HeaderSpan) (spans : RequestSpans) (h : RequestHead) (at : IsRequestAt bytes headers spans h) where
-  pub never_longer : spans.len ≤ length bytes → spans.len ≢ length bytes → IsNeverFirst bytes
-  never_longer fits other = never_with_rest bytes h (drop spans.len bytes) at.reads (omega (arith, length-drop spans.len bytes))
+module _ (users : List User) (bytes : List ℕ) (headers : List HeaderSpan) (spans : RequestSpans) (h : RequestHead) (at : IsRequestAt bytes headers spans h) where
+  pub never_longer : spans.len ≤ length bytes → spans.len ≢ length bytes → IsNeverFirst users bytes
+  never_longer fits other = never_with_rest users bytes h (drop spans.len bytes) at.reads (omega (arith, length-drop spans.len bytes))
 
-  pub never_other_version : spans.version ≢ 1 → IsNeverFirst bytes
-  never_other_version other = never_of_version bytes h (drop spans.len bytes) at.reads (λ e. other (at.version ∙ e))
+  pub never_other_version : spans.version ≢ 1 → IsNeverFirst users bytes
+  never_other_version other = never_of_version users bytes h (drop spans.len bytes) at.reads (λ e. other (at.version ∙ e))
 
-  pub never_unread : (r : Request) → r ≡ request_at bytes headers spans → has_unread_field r.fields ≡ true → IsNeverFirst bytes
+  pub never_unread : (r : Request) → r ≡ request_at users bytes headers spans → has_unread_field r.fields ≡ true → IsNeverFirst users bytes
   never_unread r is has =
-      never_with_unread_field bytes h (drop spans.len bytes) at.reads
-      (sym (ap has_unread_field (ap (λ (q : Request). q.fields) is ∙ fields_at bytes headers spans h at)) ∙ has)
+      never_with_unread_field users bytes h (drop spans.len bytes) at.reads
+      (sym (ap has_unread_field (ap (λ (q : Request). q.fields) is ∙ fields_of_head bytes headers spans h at)) ∙ has)
 
   nothing_after : spans.len ≡ length bytes → drop spans.len bytes ≡ []
   nothing_after e = grind (arith, common_steps)
 
-  pub whole_message : (r : Request) → r ≡ request_at bytes headers spans → length headers ≤ 100 → length bytes ≤ 16384 → IsFalse (begins_with_line_end bytes) → spans.len ≡ length bytes → spans.version ≡ 1 → has_unread_field r.fields ≡ false → IsFirstMessage bytes r
+  pub whole_message : (r : Request) → r ≡ request_at users bytes headers spans → length headers ≤ 100 → length bytes ≤ 16384 → IsFalse (begins_with_line_end bytes) → spans.len ≡ length bytes → spans.version ≡ 1 → has_unread_field r.fields ≡ false → IsFirstMessage users bytes r
   whole_message r is few short begins len version none =
-      let unread = all_false _ _ _ _ none in
+      let unread = all_false _ _ _ none in
       record {
         head = h;
         rest = drop spans.len bytes;
@@ -64,18 +66,16 @@ module _ (bytes : List ℕ) (headers : List HeaderSpan) (spans : RequestSpans) (
         says = record {
           method = ap (λ (q : Request). q.method) is ∙ at.method;
           target = ap (λ (q : Request). q.target) is ∙ at.path;
-          fields = ap (λ (q : Request). q.fields) is ∙ fields_at bytes headers spans h at;
+          fields = ap (λ (q : Request). q.fields) is ∙ fields_of_head bytes headers spans h at;
         };
-        login = record { no_authorization = unread.0; nobody = ap (λ (q : Request). q.login) is };
-        body = record {
-          no_length = unread.1;
-          no_coding = unread.2;
-          nothing_after = nothing_after len;
-          empty = ap (λ (q : Request). q.body) is;
-        };
-        last = record {
+        login = ap (λ (q : Request). q.login) is ∙ ap (login_of users) (sym (ap (λ (q : Request). q.fields) is));
+        body = λ no_length no_coding. ap (λ (q : Request). q.body) is;
+        last = λ of_one no_connection. ap (λ (q : Request). q.last) is;
+        as_yet = record {
           version = sym at.version ∙ version;
-          no_connection = unread.3;
-          goes_on = ap (λ (q : Request). q.last) is;
+          no_length = unread.0;
+          no_coding = unread.1;
+          no_connection = unread.2;
+          nothing_after = nothing_after len;
         };
       }

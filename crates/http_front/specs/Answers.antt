@@ -3,6 +3,7 @@ use Rattle.std.specs.Prelude.{◌≡◌, ℕ, List}
 use Rattle.http_front.specs.declared.request.Request as request
 use Rattle.http_front.specs.declared.next.Next.{Next}
 use Rattle.http_front.specs.declared.next.Next.TheVariants.{Request, More, NotFirst, NoMemory}
+use Rattle.http_front.specs.declared.user.User.{User}
 use Rattle.http_front.specs.Messages.{IsFirstMessage, IsNeverFirst, IsOpenHead}
 
 -- P of the request, if the answer is one
@@ -41,12 +42,12 @@ IsRequestOrNoMemory NotFirst right = ⊥
 IsRequestOrNoMemory NoMemory right = Unit {0}
 
 -- a message in the first form is given out: it is neither refused nor waited for
-abbrev pub GivesFirst : List ℕ → Next → Type 0
-GivesFirst bytes next = (r : request.Request) → IsFirstMessage bytes r → IsRequestOrNoMemory next r
+abbrev pub GivesFirst : List User → List ℕ → Next → Type 0
+GivesFirst users bytes next = (r : request.Request) → IsFirstMessage users bytes r → IsRequestOrNoMemory next r
 
 -- what each answer says of the bytes
-abbrev pub Answers : List ℕ → Next → Type 0
-Answers bytes (Request r) = IsFirstMessage bytes r
-Answers bytes More = IsOpenHead bytes
-Answers bytes NotFirst = IsNeverFirst bytes
-Answers bytes NoMemory = Unit {0}
+abbrev pub Answers : List User → List ℕ → Next → Type 0
+Answers users bytes (Request r) = IsFirstMessage users bytes r
+Answers users bytes More = IsOpenHead bytes
+Answers users bytes NotFirst = IsNeverFirst users bytes
+Answers users bytes NoMemory = Unit {0}

@@ -1,14 +1,64 @@
--- The users file, which as yet is empty.
-use Rattle.std.specs.Prelude.{ℕ, Bool, true, false, List, [], ◌∷◌, Result, Ok, Err}
+-- The users file.
+use Rattle.std.specs.Prelude.{ℕ, ◌≡◌, ⊤, Bool, true, false, ◌&&◌, ◌||◌, not, nat_le, List, [], ◌∷◌, ◌++◌, length, map, Option, None, Some, option_to_list, Result, Ok, Err, if◌then◌else◌}
+use Rattle.std.specs.List.{filter, filter_map, list_any, enumerate_from}
+use Rattle.std.specs.Str.{bytes_eq}
+use Rattle.dsv_base.specs.Lines.{cut_at}
+use Rattle.dsv_base.specs.Names.{is_user_name}
+use Rattle.dsv_base.specs.TextFiles.{file_lines, is_skipped}
 use Rattle.http_front.specs.declared.user.User.{User}
 use Rattle.http_front.specs.declared.users_fault.UsersFault.{UsersFault}
-use Rattle.http_front.specs.declared.users_fault.UsersFault.TheVariants.{NotFirst, NoMemory}
+use Rattle.http_front.specs.declared.users_fault.UsersFault.TheVariants.{BadUsers, NoMemory}
 
--- no bytes are no users, and there is no other form
-abbrev pub users_of : List ℕ → Result (List User) UsersFault
-users_of [] = Ok []
-users_of (b ∷ bytes) = Err NotFirst
+-- ---- one line
+
+-- the user of this name and this password, if they can be a user's
+abbrev pub user_of_pair : Option (List ℕ × List ℕ) → Option User
+user_of_pair None = None
+user_of_pair (Some pair) = if is_user_name pair.0 && nat_le (length pair.1) 255 then Some (record { name = pair.0; password = pair.1 }) else None
+
+-- the user of a line, NAME:PASSWORD, split at the first colon
+abbrev pub user_of_line : List ℕ → Option User
+user_of_line line = user_of_pair (cut_at 58 line)
+
+-- the lines that aren't skipped, each with its number; all lines are counted
+abbrev pub user_lines : ℕ → List (List ℕ) → List (ℕ × List ℕ)
+user_lines number lines = filter (λ line. not (is_skipped line.1)) (enumerate_from number lines)
+
+-- ---- all lines
+
+abbrev pub names : List User → List (List ℕ)
+names users = map (λ u. u.name) users
+
+-- after these users a line is refused that is no user's, that has the name of one of them, or that is one too many
+abbrev pub is_refused : List User → Option User → Bool
+is_refused users None = true
+is_refused users (Some u) = nat_le 10000 (length users) || list_any (bytes_eq u.name) (names users)
+
+-- the number of the first line that is refused, of lines that stand after those of these users
+unfoldable pub first_refused : List User → List (ℕ × List ℕ) → Option ℕ
+first_refused users [] = None
+first_refused users (line ∷ rest) =
+    if is_refused users (user_of_line line.1) then Some line.0
+    else first_refused (users ++ option_to_list (user_of_line line.1)) rest
+
+-- the users of these lines
+unfoldable pub all_users : List (ℕ × List ℕ) → List User
+all_users lines = filter_map (λ line. user_of_line line.1) lines
+
+-- these users, unless a line is refused
+abbrev pub unless_refused : List User → Option ℕ → Result (List User) UsersFault
+unless_refused users None = Ok users
+unless_refused users (Some number) = Err (BadUsers number)
+
+-- the users of a users file, or the first line that is refused
+unfoldable pub users_of : List ℕ → Result (List User) UsersFault
+users_of bytes = unless_refused (all_users (user_lines 1 (file_lines bytes))) (first_refused [] (user_lines 1 (file_lines bytes)))
 
 abbrev pub is_no_memory : UsersFault → Bool
-is_no_memory NotFirst = false
+is_no_memory (BadUsers number) = false
 is_no_memory NoMemory = true
+
+-- the line is refused with this number, or memory is wanted
+abbrev pub SaysRefused : ℕ → Bool → UsersFault → Type 0
+SaysRefused number refused (BadUsers line) = (line ≡ number) × (refused ≡ true)
+SaysRefused number refused NoMemory = ⊤

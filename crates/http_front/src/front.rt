@@ -49,21 +49,23 @@ impl Front {
     ///
     /// As yet a request is in the first form: one head of HTTP/1.1 in at most 16,384 bytes with at
     /// most 100 header lines, no line end before it and nothing after it, and no field
-    /// Authorization, Content-Length, Transfer-Encoding or Connection. Its method and target may
-    /// be any. It is taken out of the front; every other answer leaves the front as it was.
+    /// Content-Length, Transfer-Encoding or Connection. Its method and target may be any. Who it
+    /// comes from is said by its field Authorization and `users`. It is taken out of the front;
+    /// every other answer leaves the front as it was.
     ///
     /// [`Next::NotFirst`] comes only where no bytes that may follow make it a request in the first
     /// form. [`Next::More`] comes only where a head isn't whole, has fewer than 16,384 bytes, and
-    /// may become one of the grammar: its target, version and fields are judged when it is whole.
-    pub fn next(&mut self, _users: &Users) -> Next
-        ensures request { IfRequest result (IsFirstMessage self.old) }
-        ensures first { GivesFirst self.old result }
+    /// may become one of the grammar. It can also come for a head that may become a whole one but
+    /// none in the first form, as after 101 header lines: such a head is refused once it is whole.
+    pub fn next(&mut self, users: &Users) -> Next
+        ensures request { IfRequest result (IsFirstMessage users.now self.old) }
+        ensures first { GivesFirst users.now self.old result }
         ensures more { OnMore result (IsOpenHead self.old) }
-        ensures not_first { OnNotFirst result (IsNeverFirst self.old) }
+        ensures not_first { OnNotFirst result (IsNeverFirst users.now self.old) }
         ensures taken { IfRequest result (λ r. self.new ≡ []) }
         ensures kept { UnlessRequest result (self.new ≡ self.old) }
     {
-        let next = read_message(self.alloc, self.bytes.as_slice());
+        let next = read_message(self.alloc, users, self.bytes.as_slice());
         if let Next::Request(_) = &next {
             self.bytes.clear();
         }

@@ -1,13 +1,16 @@
-ghost use Rattle.std.specs.Prelude.{◌≡◌, ◌≤◌, IfOk, IsFalse, map, length, All};
+ghost use Rattle.std.specs.Prelude.{◌≡◌, ◌≤◌, IfOk, IsFalse, List, map, length, All};
 ghost use Rattle.httparse.specs.Grammar.{HasNoRequest, MayBecomeRequest};
 ghost use Rattle.httparse.specs.Spans.{IsHeaderWithin, IsRequestWithin, IsRequestOf};
-ghost use Rattle.http_front.specs.Messages.{is_named, has_field, begins_with_line_end, has_unread_field};
+ghost use Rattle.http_front.specs.declared.user.User.{User};
+ghost use Rattle.http_front.specs.Fields.{is_named, has_field};
+ghost use Rattle.http_front.specs.Messages.{begins_with_line_end, has_unread_field};
 ghost use Rattle.http_front.specs.Answers.{Answers};
 ghost use Rattle.http_front.specs.Spans.{field_at, request_at};
 
-use crate::login::Login;
+use crate::authorization::login_of;
 use crate::next::Next;
 use crate::request::Request;
+use crate::users::Users;
 use dsv_base::{Bytes, Field, List, NoMemory};
 use httparse::Status;
 use httparse::spans::{EMPTY_HEADER_SPAN, HeaderSpan, RequestSpans, parse_request};
@@ -20,8 +23,8 @@ const MOST_HEAD_BYTES: usize = 16_384;
 const MOST_HEADER_LINES: usize = 100;
 
 /// The request that the bytes are, in the first form, or what else they are.
-pub(crate) fn read_message(alloc: Global, bytes: &[u8]) -> Next
-    ensures { Answers bytes.now result }
+pub(crate) fn read_message(alloc: Global, users: &Users, bytes: &[u8]) -> Next
+    ensures { Answers users.now bytes.now result }
 {
     if bytes.len() > MOST_HEAD_BYTES {
         return Next::NotFirst;
@@ -31,7 +34,7 @@ pub(crate) fn read_message(alloc: Global, bytes: &[u8]) -> Next
     }
     let mut headers = [EMPTY_HEADER_SPAN; MOST_HEADER_LINES];
     match parse_request(bytes, &mut headers) {
-        Ok(Status::Complete(head)) => read_whole(alloc, bytes, &head, &headers),
+        Ok(Status::Complete(head)) => read_whole(alloc, users, bytes, &head, &headers),
         Ok(Status::Partial) => read_open(bytes),
         Err(_) => Next::NotFirst,
     }
@@ -42,7 +45,7 @@ fn read_open(bytes: &[u8]) -> Next
     requires not_whole { HasNoRequest bytes.now }
     requires no_line_before { IsFalse (begins_with_line_end bytes.now) }
     requires goes_on { MayBecomeRequest bytes.now }
-    ensures { Answers bytes.now result }
+    ensures { (users : List User) → Answers users bytes.now result }
 {
     if bytes.len() < MOST_HEAD_BYTES {
         Next::More
@@ -52,13 +55,19 @@ fn read_open(bytes: &[u8]) -> Next
 }
 
 /// The answer for bytes that begin with a whole head.
-fn read_whole(alloc: Global, bytes: &[u8], head: &RequestSpans, headers: &[HeaderSpan]) -> Next
+fn read_whole(
+    alloc: Global,
+    users: &Users,
+    bytes: &[u8],
+    head: &RequestSpans,
+    headers: &[HeaderSpan],
+) -> Next
     requires within { IsRequestWithin bytes.now headers.now head.now }
     requires reads { IsRequestOf bytes.now headers.now head.now }
     requires no_line_before { IsFalse (begins_with_line_end bytes.now) }
     requires short { length bytes.now ≤ 16384 }
     requires few { length headers.now ≤ 100 }
-    ensures { Answers bytes.now result }
+    ensures { Answers users.now bytes.now result }
 {
     if head.len != bytes.len() {
         return Next::NotFirst;
@@ -66,7 +75,7 @@ fn read_whole(alloc: Global, bytes: &[u8], head: &RequestSpans, headers: &[Heade
     if head.version != 1 {
         return Next::NotFirst;
     }
-    let request = match request_of(alloc, bytes, head, headers) {
+    let request = match request_of(alloc, users, bytes, head, headers) {
         Ok(request) => request,
         Err(_) => return Next::NoMemory,
     };
@@ -89,20 +98,19 @@ fn begins_with_line_end(bytes: &[u8]) -> bool
 fn has_unread_field(fields: &[Field]) -> bool
     ensures { result ≡ has_unread_field fields.now }
 {
-    has_field(fields, b"authorization")
-        || has_field(fields, b"content-length")
+    has_field(fields, b"content-length")
         || has_field(fields, b"transfer-encoding")
         || has_field(fields, b"connection")
 }
 
 /// Whether one of the fields has this name, in any case of letters.
-fn has_field(fields: &[Field], name: &[u8]) -> bool
+pub(crate) fn has_field(fields: &[Field], name: &[u8]) -> bool
     ensures { result ≡ has_field name.now fields.now }
 {
     fields.iter().any(|field| is_named(field, name))
 }
 
-fn is_named(field: &Field, name: &[u8]) -> bool
+pub(crate) fn is_named(field: &Field, name: &[u8]) -> bool
     ensures { result ≡ is_named name.now field.now }
 {
     field.name.get().eq_ignore_ascii_case(name)
@@ -111,18 +119,21 @@ fn is_named(field: &Field, name: &[u8]) -> bool
 /// The request of a head in the first form.
 fn request_of(
     alloc: Global,
+    users: &Users,
     bytes: &[u8],
     head: &RequestSpans,
     headers: &[HeaderSpan],
 ) -> Result<Request, NoMemory>
     requires { IsRequestWithin bytes.now headers.now head.now }
-    ensures { IfOk result (λ r. r ≡ request_at bytes.now headers.now head.now) }
+    ensures { IfOk result (λ r. r ≡ request_at users.now bytes.now headers.now head.now) }
 {
+    let fields = fields_of(alloc, bytes, &headers[..head.headers])?;
+    let login = login_of(alloc, users, fields.get())?;
     Ok(Request {
         method: Bytes::of(alloc, head.method.of(bytes))?,
         target: Bytes::of(alloc, head.path.of(bytes))?,
-        fields: fields_of(alloc, bytes, &headers[..head.headers])?,
-        login: Login::Nobody,
+        fields,
+        login,
         body: Bytes::from_vec(Vec::new(alloc)),
         last: false,
     })

@@ -7,7 +7,7 @@ pub enum Next {
     Request(Request),
     /// The beginning of a head, which needs more bytes.
     More,
-    /// Bytes that no request can come of, whatever follows.
+    /// Bytes that no request in the first form can come of, whatever follows.
     NotFirst,
     /// Want of memory.
     NoMemory,

@@ -49,7 +49,7 @@ const ROWS: [Row; 16] = [
     },
     Row {
         bytes: b"GET / HTTP/1.1\r\nAuthorization: Basic YTpi\r\n\r\n",
-        kind: Kind::NotFirst,
+        kind: Kind::Request,
     },
     Row {
         bytes: b"GET / HTTP/1.1\r\nHost: demo\r\ncOnTeNt-LeNgTh: 0\r\n\r\n",
@@ -169,15 +169,4 @@ fn check_request<R: Abort>(rt: &R, request: &Request) {
     }
     assert!(rt; matches!(request.login, Login::Nobody));
     assert!(rt; request.body.get().is_empty() && !request.last);
-}
-
-#[test]
-fn users(rt: HostRuntime) -> Result<(), Fail> {
-    let fault = read_users(rt.alloc(), b"bob:x\n").err();
-    assert_eq!(rt; fault, Some(UsersFault::NotFirst));
-    assert_eq!(rt;
-        format!(in rt.alloc(); "{}", UsersFault::NotFirst)?.as_str(),
-        "not in the first form"
-    );
-    Ok(())
 }

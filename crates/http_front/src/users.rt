@@ -1,40 +1,95 @@
-ghost use Rattle.std.specs.Prelude.{◌≤◌, length};
-ghost use Rattle.dsv_base.specs.Gives.{Gives};
-ghost use Rattle.http_front.specs.UsersFile.{users_of, is_no_memory};
+ghost use Rattle.std.specs.Prelude.{◌≡◌, ◌<◌, ◌∷◌, ◌++◌, [], false, length, IfOk};
+ghost use Rattle.std.specs.List.{list_any, position_from};
+ghost use Rattle.std.specs.Str.{bytes_eq};
+ghost use Rattle.http_front.specs.Logins.{number_of};
+ghost use Rattle.http_front.specs.UsersFile.{names};
 
 use crate::user::User;
-use crate::users_fault::UsersFault;
-use dsv_base::List;
+use dsv_base::NoMemory;
 use std::alloc::Global;
+use std::collections::BTreeMap;
 use std::marker::Model;
 
+/// The most users that a users file may have.
+pub(crate) const MOST_USERS: usize = 10_000;
+
 /// The users who may log in. Contracts see them as the list of the users, in the file's order.
-#[derive(Debug, Drop)]
+#[derive(Drop)]
 pub struct Users {
-    users: List<User>,
+    users: Vec<User>,
+    places: BTreeMap<Vec<u8>, usize>,
 }
 
 impl Model for Users {
     ghost use Rattle.std.specs.Prelude.{List};
     ghost use Rattle.http_front.specs.declared.user.User.{User};
+    ghost use Rattle.http_front.specs.Places.{IsIndexed};
 
     ghost Value = { List User };
 
-    ghost view = { λ u. u.users };
+    ghost view = { λ u. u.users.items };
+
+    ghost invariant = { λ u. IsIndexed u.places (λ k. k.items) u.users.items };
 }
 
-/// The users of a users file of at most 268,435,456 bytes.
-///
-/// [`UsersFault::NotFirst`] comes exactly where there are bytes: as yet a users file is empty,
-/// and has no users. [`UsersFault::NoMemory`] is want of memory.
-pub fn read_users(alloc: Global, bytes: &[u8]) -> Result<Users, UsersFault>
-    requires { length bytes.now ≤ 268435456 }
-    ensures { Gives is_no_memory result (users_of bytes.now) }
-{
-    if !bytes.is_empty() {
-        return Err(UsersFault::NotFirst);
+impl Users {
+    /// No users.
+    pub(crate) fn none(alloc: Global) -> Users
+        ensures { result ≡ [] }
+    {
+        Users {
+            users: Vec::new(alloc),
+            places: BTreeMap::new(alloc),
+        }
     }
-    Ok(Users {
-        users: List::of(Vec::new(alloc)),
-    })
+
+    /// These users and one more, who has a name of its own. The one error is want of memory.
+    pub(crate) fn with(self, alloc: Global, user: User) -> Result<Users, NoMemory>
+        requires room { length self < 10000 }
+        requires fresh { list_any (bytes_eq user.name) (names self) ≡ false }
+        ensures { IfOk result (λ users. users ≡ self ++ user ∷ []) }
+    {
+        let Users {
+            mut users,
+            mut places,
+        } = self;
+        let name = Vec::from_slice(alloc, user.name.get())?;
+        places.insert(name, users.len())?;
+        users.push(user)?;
+        Ok(Users { users, places })
+    }
+
+    pub(crate) fn len(&self) -> usize
+        ensures { result ≡ length self.now }
+    {
+        self.users.len()
+    }
+
+    /// Whether one of them has this name.
+    pub(crate) fn has(&self, name: &[u8]) -> bool
+        ensures { result ≡ list_any (bytes_eq name.now) (names self.now) }
+    {
+        self.place(name).is_some()
+    }
+
+    /// The place of the user of this name, from 0.
+    fn place(&self, name: &[u8]) -> Option<usize>
+        ensures { result ≡ position_from (bytes_eq name.now) 0 (names self.now) }
+    {
+        self.places.get(name).copied()
+    }
+
+    /// The number of the user with this name and this password: the place in the file, from 1.
+    pub(crate) fn number_of(&self, name: &[u8], password: &[u8]) -> Option<u32>
+        ensures { result ≡ number_of self.now name.now password.now }
+    {
+        let place = match self.place(name) {
+            None => return None,
+            Some(place) => place,
+        };
+        if password != self.users[place].password.get() {
+            return None;
+        }
+        Some(place as u32 + 1)
+    }
 }

@@ -6,7 +6,7 @@ use Rattle.davsvn.specs.declared.reply.Reply.{Reply}
 use Rattle.davsvn.specs.States.{opening_state}
 use Rattle.davsvn.specs.Targets.{resource_of}
 use Rattle.davsvn.specs.Views.{view_of}
-use Rattle.davsvn.specs.ReadReplies.{user_of}
+use Rattle.davsvn.specs.ReadReplies.{viewer}
 use Rattle.davsvn.proofs.Shown.{get_is}
 use Rattle.davsvn.proofs.answer.read_reply.Goals as goal
 
@@ -15,5 +15,4 @@ unfolding view_of
 returns c =
     let named : resource_of c.args.trees.now.name c.args.request.now.target ≡ Some c.in-Some.resource = search rules in
     let get : bytes_eq c.args.request.now.method (codes "GET") ≡ true = search rules in
-    let user = user_of c.args.request.now.login in
-    subst (λ (o : Option Reply). IfOk c.get_reply.result (λ reply. reply ≡ o)) (get_is _ c.node_shown.result (view_of (opening_state (repository_of c.args.trees.now) c.args.rules.now.list) user) user c.args.request.now c.in-Some.resource named get (rw c.user_of-user.ensures at c.node_shown.ensures)) c.get_reply.ensures
+    subst (λ (o : Option Reply). IfOk c.get_reply.result (λ reply. reply ≡ o)) (get_is _ c.node_shown.result (view_of (opening_state (repository_of c.args.trees.now) c.args.policy.now.rules) (viewer c.args.request.now.login)) c.args.request.now c.in-Some.resource named get c.node_shown.ensures) c.get_reply.ensures

@@ -16,4 +16,4 @@ returns-in-Ok-None g c =
     let b = c.in-Request.ensures.bytes in
     let none : reply_to (repository_of c.args.trees.now) c.args.rules.now.list c.in-Request.request ≡ None = search rules in
     let unanswered = λ (r : Request) (same : c.in-Request.request ≡ r). subst (λ (s : Request). reply_to (repository_of c.args.trees.now) c.args.rules.now.list s ≡ None) same none in
-    (b.0, b.1, λ r message. unanswered r (first_message_unique b.0 c.in-Request.request r b.2 message), Keeps-refl _)
+    (b.0, b.1, λ r message. unanswered r (first_message_unique c.args.users.now b.0 c.in-Request.request r b.2 message), Keeps-refl _)

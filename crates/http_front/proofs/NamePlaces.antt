@@ -1,0 +1,192 @@
+-- Names and their places: one more, and a user that is found by the name.
+use Rattle.std.proofs.Common.{Ordering, Less, Equal, Greater, ◌≡◌, ℕ, suc, ◌+◌, ◌<◌, Bool, true, false, ◌&&◌, cond, ◌||◌, List, [], ◌∷◌, ◌++◌, length, map, get_or, Option, Some, None, refl, ap, sym, subst, ◌∙◌, arith}
+use Rattle.std.specs.Prelude.{if◌then◌else◌}
+use Rattle.std.specs.BTreeMap.{insert_entry}
+use Rattle.std.specs.Cmp.Lexicographic.{slice_cmp}
+use Rattle.std.specs.List.{list_any, position_from, IsDistinct, AllByRecursion}
+use Rattle.std.specs.Map.{lookup}
+use Rattle.std.specs.Option.{is_some}
+use Rattle.std.specs.Ordering.{match_ordering, nat_cmp, is_eq}
+use Rattle.std.specs.Str.{bytes_eq}
+use Rattle.std.proofs.lemmas.Slice.Eq.{bytes_eq-Decides}
+use Rattle.std.proofs.lemmas.Cmp.{tied_itself, nat_list_cmp_total, nat_list_eq_equiv}
+use Rattle.std.proofs.lemmas.Map.Keys.{IsDistinct-push}
+use Rattle.std.proofs.lemmas.Map.Lookups.{exact_bytes}
+use Rattle.std.proofs.lemmas.Map.Text.{is_eq-slice_cmp}
+use Rattle.http_front.specs.declared.user.User.{User}
+use Rattle.http_front.specs.Logins.{is_user}
+use Rattle.http_front.specs.UsersFile.{names}
+
+-- ---- the value at a text, after an insert
+
+equal_from : (o : Ordering) → is_eq o ≡ true → o ≡ Equal
+equal_from Less h = cc
+equal_from Equal h = refl
+equal_from Greater h = cc
+
+-- a text that is equal to two makes them equal
+apart : (x y : List ℕ) → slice_cmp nat_cmp x y ≡ Greater → (q : List ℕ) → is_eq (slice_cmp nat_cmp q x) ≡ true → is_eq (slice_cmp nat_cmp q y) ≡ true → ⊥
+apart x y h q a b =
+    let e : q ≡ x = exact_bytes q x (equal_from (slice_cmp nat_cmp q x) a) in
+    let f : q ≡ y = exact_bytes q y (equal_from (slice_cmp nat_cmp q y) b) in
+    let same : slice_cmp nat_cmp x y ≡ slice_cmp nat_cmp q q = ap (λ t. slice_cmp nat_cmp t y) (sym e) ∙ ap (λ t. slice_cmp nat_cmp q t) (sym f) in
+    let tied : slice_cmp nat_cmp q q ≡ Equal = tied_itself nat_list_cmp_total q in
+    cc
+
+twice : (b : Bool) (x y l : Option ℕ) → cond b x l ≡ cond b x (cond b y l)
+twice true x y l = refl
+twice false x y l = refl
+
+turned : (a b : Bool) (x y l : Option ℕ) → (a ≡ true → b ≡ true → ⊥) → cond a x (cond b y l) ≡ cond b y (cond a x l)
+turned true true x y l h = absurd (h refl refl)
+turned true false x y l h = refl
+turned false true x y l h = refl
+turned false false x y l h = refl
+
+module _ {K : Type 0} (text : K → List ℕ) where
+  abbrev pub order : K → K → Ordering
+  order x y = slice_cmp nat_cmp (text x) (text y)
+
+  abbrev pub at : List ℕ → K → Bool
+  at q k = is_eq (slice_cmp nat_cmp q (text k))
+
+  pub lookup-inserted : (q : List ℕ) (key : K) (v : ℕ) (es : List (K × ℕ)) → lookup (at q) (insert_entry order es key v) ≡ cond (at q key) (Some v) (lookup (at q) es)
+  lookup-inserted q key v [] = refl
+  lookup-inserted q key v (e ∷ es) = either (order key e.0) refl (lookup-inserted q key v es)
+    where
+      either : (o : Ordering) → order key e.0 ≡ o → lookup (at q) (insert_entry order es key v) ≡ cond (at q key) (Some v) (lookup (at q) es)
+          → lookup (at q) (match_ordering o ((key, v) ∷ e ∷ es) ((e.0, v) ∷ es) (e ∷ insert_entry order es key v)) ≡ cond (at q key) (Some v) (cond (at q e.0) (Some e.1) (lookup (at q) es))
+      either Less h rest = refl
+      either Equal h rest =
+          let same : at q e.0 ≡ at q key = ap (λ t. is_eq (slice_cmp nat_cmp q t)) (sym (exact_bytes (text key) (text e.0) h)) in
+          twice (at q e.0) (Some v) (Some e.1) (lookup (at q) es) ∙ ap (λ b. cond b (Some v) (cond (at q e.0) (Some e.1) (lookup (at q) es))) same
+      either Greater h rest = ap (cond (at q e.0) (Some e.1)) rest ∙ turned (at q e.0) (at q key) (Some e.1) (Some v) (lookup (at q) es) (λ a b. apart (text key) (text e.0) h q b a)
+
+-- ---- the first place of a name
+
+pub found_or_not : (name : List ℕ) (n : ℕ) (ns : List (List ℕ)) → is_some (position_from (bytes_eq name) n ns) ≡ list_any (bytes_eq name) ns
+found_or_not name n [] = refl
+found_or_not name n (m ∷ ns) =
+    elim (bytes_eq name m) as (λ v. bytes_eq name m ≡ v → is_some (position_from (bytes_eq name) n (m ∷ ns)) ≡ list_any (bytes_eq name) (m ∷ ns)) [
+      | true ↦ λ e. rw e refl
+      | false ↦ λ e. rw e (found_or_not name (n + 1) ns)
+    ] refl
+
+absent : (name : List ℕ) (n : ℕ) (ns : List (List ℕ)) → list_any (bytes_eq name) ns ≡ false → position_from (bytes_eq name) n ns ≡ None
+absent name n [] h = refl
+absent name n (m ∷ ns) h =
+    elim (bytes_eq name m) as (λ v. bytes_eq name m ≡ v → position_from (bytes_eq name) n (m ∷ ns) ≡ None) [
+      | true ↦ λ e. cc
+      | false ↦ λ e. rw e (absent name (n + 1) ns (rw e at h))
+    ] refl
+
+-- a text that is equal to two makes them equal
+equal_both : (q a b : List ℕ) → bytes_eq q a ≡ true → bytes_eq q b ≡ true → bytes_eq a b ≡ true
+equal_both q a b e f = (bytes_eq-Decides a b).1 (sym ((bytes_eq-Decides q a).0 e) ∙ (bytes_eq-Decides q b).0 f)
+
+-- a name that stands behind others, none of which it is
+pushed : (q name : List ℕ) (n : ℕ) (ns : List (List ℕ)) → list_any (bytes_eq name) ns ≡ false
+    → position_from (bytes_eq q) n (ns ++ name ∷ []) ≡ cond (bytes_eq q name) (Some (n + length ns)) (position_from (bytes_eq q) n ns)
+pushed q name n [] fresh = ap (λ (at : ℕ). cond (bytes_eq q name) (Some at) None) (omega arith)
+pushed q name n (m ∷ ms) fresh =
+    elim (bytes_eq q m) as (λ v. bytes_eq q m ≡ v → position_from (bytes_eq q) n (m ∷ (ms ++ name ∷ [])) ≡ cond (bytes_eq q name) (Some (n + length (m ∷ ms))) (position_from (bytes_eq q) n (m ∷ ms))) [
+      | true ↦ λ e. rw e (either (bytes_eq q name) refl e)
+      | false ↦ λ e. rw e (pushed q name (n + 1) ms (later (bytes_eq name m) fresh) ∙ ap (λ (at : ℕ). cond (bytes_eq q name) (Some at) (position_from (bytes_eq q) (n + 1) ms)) (omega arith))
+    ] refl
+  where
+    later : (v : Bool) → (v || list_any (bytes_eq name) ms) ≡ false → list_any (bytes_eq name) ms ≡ false
+    later true h = cc
+    later false h = h
+
+    first : (v : Bool) → (v || list_any (bytes_eq name) ms) ≡ false → v ≡ false
+    first true h = cc
+    first false h = refl
+
+    either : (v : Bool) → bytes_eq q name ≡ v → bytes_eq q m ≡ true → Some n ≡ cond v (Some (n + length (m ∷ ms))) (Some n)
+    either false e f = refl
+    either true e f = absurd (cc (equal_both q name m e f, first (bytes_eq name m) fresh))
+
+names_more : (users : List User) (u : User) → names (users ++ u ∷ []) ≡ names users ++ u.name ∷ []
+names_more [] u = refl
+names_more (v ∷ vs) u = ap (λ ns. v.name ∷ ns) (names_more vs u)
+
+as_many_names : (users : List User) → length (names users) ≡ length users
+as_many_names [] = refl
+as_many_names (v ∷ vs) = ap suc (as_many_names vs)
+
+-- the map and the users go together
+pub places_more : {K : Type 0} (text : K → List ℕ) (old new : List (K × ℕ)) (users all : List User) (u : User) (key : K) (place : ℕ) → text key ≡ u.name → list_any (bytes_eq u.name) (names users) ≡ false
+    → place ≡ length users → new ≡ insert_entry (order text) old key place → all ≡ users ++ u ∷ [] → (q : List ℕ) → lookup (at text q) old ≡ position_from (bytes_eq q) 0 (names users)
+    → lookup (at text q) new ≡ position_from (bytes_eq q) 0 (names all)
+places_more text old new users all u key place is fresh last made more q before =
+    ap (lookup (at text q)) made
+    ∙ lookup-inserted text q key place old
+    ∙ ap (λ b. cond b (Some place) (lookup (at text q) old)) (is_eq-slice_cmp q (text key) ∙ ap (bytes_eq q) is)
+    ∙ ap (λ o. cond (bytes_eq q u.name) (Some place) o) before
+    ∙ ap (λ (at : ℕ). cond (bytes_eq q u.name) (Some at) (position_from (bytes_eq q) 0 (names users))) (omega (arith, last, as_many_names users))
+    ∙ sym (pushed q u.name 0 (names users) fresh)
+    ∙ ap (position_from (bytes_eq q) 0) (sym (ap names more ∙ names_more users u))
+
+pub distinct_more : (users all : List User) (u : User) → list_any (bytes_eq u.name) (names users) ≡ false → all ≡ users ++ u ∷ [] → IsDistinct bytes_eq (names users) → IsDistinct bytes_eq (names all)
+distinct_more users all u fresh more before =
+    subst (IsDistinct bytes_eq) (sym (ap names more ∙ names_more users u)) (IsDistinct-push nat_list_eq_equiv (names users) u.name before fresh)
+
+-- ---- a user that is found by the name
+
+pub none_named : (name password : List ℕ) (n m : ℕ) (users : List User) → position_from (bytes_eq name) n (names users) ≡ None → position_from (is_user name password) m users ≡ None
+none_named name password n m [] h = refl
+none_named name password n m (u ∷ us) h =
+    elim (bytes_eq name u.name) as (λ v. bytes_eq name u.name ≡ v → position_from (is_user name password) m (u ∷ us) ≡ None) [
+      | true ↦ λ e. absurd (cc (rw e at h))
+      | false ↦ λ e. rw e (none_named name password (n + 1) (m + 1) us (rw e at h))
+    ] refl
+
+none_later : (name password : List ℕ) (m : ℕ) (users : List User) → AllByRecursion (λ y. bytes_eq name y ≡ false) (names users) → position_from (is_user name password) m users ≡ None
+none_later name password m [] h = refl
+none_later name password m (u ∷ us) h = rw h.0 (none_later name password (m + 1) us h.1)
+
+-- the user at the first place of a name is the only one of it
+pub the_one_named : (name password : List ℕ) (n m : ℕ) (users : List User) (place : ℕ) (d : User) → position_from (bytes_eq name) n (names users) ≡ Some place → IsDistinct bytes_eq (names users)
+    → (k : ℕ) × (place ≡ n + k) × (k < length users) × (position_from (is_user name password) m users ≡ cond (bytes_eq password (get_or users k d).password) (Some (m + k)) None)
+unfolding IsDistinct
+the_one_named name password n m [] place d h distinct = absurd (cc h)
+the_one_named name password n m (u ∷ us) place d h distinct = either (bytes_eq name u.name) refl (the_one_named name password (n + 1) (m + 1) us place d)
+  where
+    here : (a b : Bool) → a ≡ true → position_from (is_user name password) (m + 1) us ≡ None → cond (a && b) (Some m) (position_from (is_user name password) (m + 1) us) ≡ cond b (Some (m + 0)) None
+    here true true e none = ap (λ (k : ℕ). Some k) (omega arith)
+    here true false e none = none
+    here false b e none = cc
+
+    next : (k : ℕ) → place ≡ n + 1 + k → k < length us → position_from (is_user name password) (m + 1) us ≡ cond (bytes_eq password (get_or us k d).password) (Some (m + 1 + k)) None → bytes_eq name u.name ≡ false
+        → (k : ℕ) × (place ≡ n + k) × (k < length (u ∷ us)) × (position_from (is_user name password) m (u ∷ us) ≡ cond (bytes_eq password (get_or (u ∷ us) k d).password) (Some (m + k)) None)
+    next k shift within there e =
+        let here : position_from (is_user name password) m (u ∷ us) ≡ cond (bytes_eq password (get_or us k d).password) (Some (m + 1 + k)) None = rw e there in
+        (suc k, omega (arith, shift), omega (arith, within), here ∙ ap (λ (j : ℕ). cond (bytes_eq password (get_or us k d).password) (Some j) None) (omega arith))
+    either : (v : Bool) → bytes_eq name u.name ≡ v
+        → (position_from (bytes_eq name) (n + 1) (names us) ≡ Some place → IsDistinct bytes_eq (names us)
+        → (k : ℕ) × (place ≡ n + 1 + k) × (k < length us) × (position_from (is_user name password) (m + 1) us ≡ cond (bytes_eq password (get_or us k d).password) (Some (m + 1 + k)) None))
+        → (k : ℕ) × (place ≡ n + k) × (k < length (u ∷ us)) × (position_from (is_user name password) m (u ∷ us) ≡ cond (bytes_eq password (get_or (u ∷ us) k d).password) (Some (m + k)) None)
+    either true e later =
+        let found : Some n ≡ Some place = sym (rw e refl) ∙ h in
+        let is : n ≡ place = cc in
+        let same : u.name ≡ name = sym ((bytes_eq-Decides name u.name).0 e) in (
+          0,
+          omega (arith, is),
+          omega arith,
+          here (bytes_eq name u.name) (bytes_eq password u.password) e
+              (none_later name password (m + 1) us (subst (λ t. AllByRecursion (λ y. bytes_eq t y ≡ false) (names us)) same distinct.0)),
+        )
+    either false e later = let rest = later (sym (rw e refl) ∙ h) distinct.1 in next rest.0 rest.1 rest.2 rest.3 e
+
+-- the user at the place of a name, by the password
+pub named_user : (name password : List ℕ) (users : List User) (place : ℕ) (d : User) → position_from (bytes_eq name) 0 (names users) ≡ Some place → IsDistinct bytes_eq (names users)
+    → (place < length users) × (d ≡ get_or users place d → position_from (is_user name password) 1 users ≡ cond (bytes_eq password d.password) (Some (place + 1)) None)
+named_user name password users place d h distinct =
+    let one = the_one_named name password 0 1 users place d h distinct in
+    let same : one.0 ≡ place = omega (arith, one.1) in (
+      subst (λ k. k < length users) same one.2,
+      λ is. one.3
+          ∙ ap (λ (k : ℕ). cond (bytes_eq password (get_or users k d).password) (Some (1 + k)) None) same
+          ∙ ap (λ (u : User). cond (bytes_eq password u.password) (Some (1 + place)) None) (sym is)
+          ∙ ap (λ (k : ℕ). cond (bytes_eq password d.password) (Some k) None) (omega arith),
+    )

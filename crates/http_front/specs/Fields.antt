@@ -1,0 +1,18 @@
+-- The fields of a head.
+use Rattle.std.specs.Prelude.{ℕ, Bool, List}
+use Rattle.std.specs.List.{list_any}
+use Rattle.std.specs.Str.{str_eq_ignore_ascii_case}
+use Rattle.httparse.specs.Grammar.{Field as HeaderLine, field_value}
+use Rattle.dsv_base.specs.declared.field.Field.{Field}
+
+-- a header line's name and its value, without the blanks around it
+abbrev pub field_of_line : HeaderLine → Field
+field_of_line line = record { name = line.name; value = field_value line }
+
+-- the field has this name, in any case of letters (RFC 9110, section 5.1)
+abbrev pub is_named : List ℕ → Field → Bool
+is_named name field = str_eq_ignore_ascii_case field.name name
+
+-- one of the fields has this name
+abbrev pub has_field : List ℕ → List Field → Bool
+has_field name fields = list_any (is_named name) fields
