@@ -1,6 +1,5 @@
 -- Names and their places: one more, and a user that is found by the name.
-use Rattle.std.proofs.Common.{Ordering, Less, Equal, Greater, ◌≡◌, ℕ, suc, ◌+◌, ◌<◌, Bool, true, false, ◌&&◌, cond, ◌||◌, List, [], ◌∷◌, ◌++◌, length, map, get_or, Option, Some, None, refl, ap, sym, subst, ◌∙◌, arith}
-use Rattle.std.specs.Prelude.{if◌then◌else◌}
+use Rattle.std.proofs.Common.{Ordering, Less, Equal, Greater, ◌≡◌, ℕ, suc, ◌+◌, ◌<◌, Bool, true, false, ◌&&◌, cond, ◌||◌, List, [], ◌∷◌, ◌++◌, length, get_or, Option, Some, None, refl, ap, sym, subst, ◌∙◌, arith}
 use Rattle.std.specs.BTreeMap.{insert_entry}
 use Rattle.std.specs.Cmp.Lexicographic.{slice_cmp}
 use Rattle.std.specs.List.{list_any, position_from, IsDistinct, AllByRecursion}
@@ -162,6 +161,7 @@ the_one_named name password n m (u ∷ us) place d h distinct = either (bytes_eq
     next k shift within there e =
         let here : position_from (is_user name password) m (u ∷ us) ≡ cond (bytes_eq password (get_or us k d).password) (Some (m + 1 + k)) None = rw e there in
         (suc k, omega (arith, shift), omega (arith, within), here ∙ ap (λ (j : ℕ). cond (bytes_eq password (get_or us k d).password) (Some j) None) (omega arith))
+
     either : (v : Bool) → bytes_eq name u.name ≡ v
         → (position_from (bytes_eq name) (n + 1) (names us) ≡ Some place → IsDistinct bytes_eq (names us)
         → (k : ℕ) × (place ≡ n + 1 + k) × (k < length us) × (position_from (is_user name password) (m + 1) us ≡ cond (bytes_eq password (get_or us k d).password) (Some (m + 1 + k)) None))

@@ -23,3 +23,5 @@ pub use users_file::read_users;
 
 #[cfg(test)]
 mod tests;
+#[cfg(test)]
+mod users_tests;

@@ -14,7 +14,7 @@ use std::marker::Model;
 pub(crate) const MOST_USERS: usize = 10_000;
 
 /// The users who may log in. Contracts see them as the list of the users, in the file's order.
-#[derive(Drop)]
+#[derive(Debug, Drop)]
 pub struct Users {
     users: Vec<User>,
     places: BTreeMap<Vec<u8>, usize>,
