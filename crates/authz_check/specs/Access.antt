@@ -33,8 +33,8 @@ abbrev pub greatest : List Right → Option Right
 greatest [] = None
 greatest (r ∷ rs) = Some (fold greater r rs)
 
--- what a group of rules gives the user: the greatest right of those that speak of this user, if
--- any does
+-- what the rules of one section give the user: the greatest right of those that speak of this user,
+-- if any does
 abbrev pub right_in : Option (List ℕ) → List Rule → Option Right
 right_in user rules = greatest (map (λ rule. rule.right) (filter (λ rule. matches rule user) rules))
 
@@ -44,17 +44,18 @@ same_repos None None = true
 same_repos (Some a) (Some b) = bytes_eq a b
 same_repos a b = false
 
-abbrev pub is_in_group : Option (List ℕ) → List ℕ → Rule → Bool
-is_in_group repos path rule = same_repos rule.repos repos && bytes_eq rule.path path
+-- the rule stands in the section of this path that names this repository, or none
+abbrev pub is_in_section : Option (List ℕ) → List ℕ → Rule → Bool
+is_in_section repos path rule = same_repos rule.repos repos && bytes_eq rule.path path
 
--- the rules of one path that name this repository, or those of the path that name none
-abbrev pub group : List Rule → Option (List ℕ) → List ℕ → List Rule
-group rules repos path = filter (is_in_group repos path) rules
+-- the rules of one section, which names a repository and a path, or a path alone
+abbrev pub section_rules : List Rule → Option (List ℕ) → List ℕ → List Rule
+section_rules rules repos path = filter (is_in_section repos path) rules
 
--- the right that the rules of one path give the user, if they give any: the group that names the
--- repository decides, and where it gives nothing the group that names none
+-- the right that the sections of one path give the user, if they give any: the section that names
+-- the repository decides, and where it gives nothing the section that names none
 abbrev pub right_at : List Rule → List ℕ → Option (List ℕ) → List ℕ → Option Right
-right_at rules name user path = option_or (right_in user (group rules (Some name) path)) (right_in user (group rules None path))
+right_at rules name user path = option_or (right_in user (section_rules rules (Some name) path)) (right_in user (section_rules rules None path))
 
 -- the first right that is given at the path, at its parent and so on up to `/`; No where none is
 unfoldable pub access : List Rule → List ℕ → Option (List ℕ) → List ℕ → Right

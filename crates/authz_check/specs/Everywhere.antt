@@ -31,7 +31,9 @@ meets Nothing = is_no
 abbrev pub speaks_of : List ℕ → Rule → Bool
 speaks_of name rule = same_repos rule.repos None || same_repos rule.repos (Some name)
 
--- the paths of the sections that speak of this repository, as far as they lie under a path
+-- the paths of the sections that speak of this repository, as far as they lie under a path. Sections of
+-- other repositories, and those without a counting line, are left out since they change no right: where
+-- a path has no other section, its right is its parent's
 abbrev pub section_paths : List Rule → List ℕ → List ℕ → List (List ℕ)
 section_paths rules name top = filter (λ path. is_under path top) (map (λ rule. rule.path) (filter (speaks_of name) rules))
 

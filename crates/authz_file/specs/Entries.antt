@@ -41,7 +41,7 @@ grant_entry place line key value =
     or_fault (BadAccess line) (right_of value) >>= (λ right.
     Ok (record { line = line; label = place_name place.repos place.path ++ 10 ∷ key; words = own_words who (principal_of key); grant = Some (record { place = place; negated = is_negated key; who = who; right = right }) })))
 
--- before any section there is none
+-- a line that stands before the first section gives no entry
 abbrev pub entry_in : Option Section → ℕ → List ℕ → List ℕ → Result Entry RulesFault
 entry_in None line key value = Err (BadLine line)
 entry_in (Some Groups) line key value = group_entry line key value
@@ -58,7 +58,6 @@ entries_of section (Stray line ∷ rest) = Err (BadLine line)
 entries_of section (Head line text ∷ rest) = section_at line text >>= (λ next. entries_of (Some next) rest)
 entries_of section (Body line text ∷ rest) = entry_at section line text >>= (λ entry. entries_of section rest >>= (λ entries. Ok (entry ∷ entries)))
 
--- the entries of a file
 unfoldable pub file_entries : List ℕ → Result (List Entry) RulesFault
 file_entries bytes = entries_of None (joined_lines false 1 (file_lines bytes))
 

@@ -51,7 +51,6 @@ abbrev pub list_items : List ℕ → List (List ℕ)
 list_items [] = []
 list_items (b ∷ bs) = map trimmed (slice_split is_comma (b ∷ bs))
 
--- a list of words
 abbrev pub words_if : List (List ℕ) → Option (List (List ℕ))
 words_if items = if list_all is_word items then Some items else None
 

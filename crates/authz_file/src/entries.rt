@@ -194,7 +194,6 @@ struct Reading {
 }
 
 impl Reading {
-    /// Reads one more line.
     #[tactic(auto, unfolding(crate::specs::Entries::entries_of))]
     fn read_line(&mut self, alloc: Global, line: &Line) -> Result<(), RulesFault>
         ensures ok { OnOk result (Reads (self.old.section, self.old.entries.items) line.now (self.new.section, self.new.entries.items)) }

@@ -2,7 +2,7 @@
 
 ghost use Rattle.std.specs.Prelude.{◌≡◌, max, true};
 ghost use Rattle.std.specs.Option.{option_copied};
-ghost use Rattle.authz_check.specs.Access.{right_at, right_in, group, is_in_group, same_repos};
+ghost use Rattle.authz_check.specs.Access.{right_at, right_in, section_rules, is_in_section, same_repos};
 ghost use Rattle.authz_check.specs.Everywhere.{speaks_of};
 ghost use Rattle.authz_check.specs.Order.{HasEach};
 ghost use Rattle.authz_check.specs.Weights.{level, weight, weight_at};
@@ -29,7 +29,7 @@ pub fn right_at(
     }
 }
 
-/// The right that one group gives: the greatest of the rules that speak of the user.
+/// The right that one section gives: the greatest of its rules that speak of the user.
 fn right_in(
     rules: &[Rule],
     places: &[usize],
@@ -37,9 +37,9 @@ fn right_in(
     user: Option<&[u8]>,
     path: &[u8],
 ) -> Option<Right>
-    requires { HasEach (λ rule. is_in_group (option_copied repos) path.now rule ≡ true) rules.now places.now }
+    requires { HasEach (λ rule. is_in_section (option_copied repos) path.now rule ≡ true) rules.now places.now }
     ensures { result ≡ right_in (option_copied user.entry)
-        (group rules.now (option_copied repos.entry) path.now) }
+        (section_rules rules.now (option_copied repos.entry) path.now) }
 {
     let mut best = None;
     'places: for place in places {
@@ -75,7 +75,7 @@ fn with_rule(
 ) -> Option<Right>
     ensures { level result ≡ max (level best) (weight (option_copied user.entry) (option_copied repos.entry) path.now rule.now) }
 {
-    if !is_in_group(rule, repos, path) {
+    if !is_in_section(rule, repos, path) {
         return best;
     }
     if !matches(rule, user) {
@@ -84,9 +84,9 @@ fn with_rule(
     raised(best, rule.right)
 }
 
-/// Whether the rule stands in the section of this repository, or of none, and this path.
-fn is_in_group(rule: &Rule, repos: Option<&[u8]>, path: &[u8]) -> bool
-    ensures { result ≡ is_in_group (option_copied repos.entry) path.now rule.now }
+/// Whether the rule stands in the section of this path that names this repository, or none.
+fn is_in_section(rule: &Rule, repos: Option<&[u8]>, path: &[u8]) -> bool
+    ensures { result ≡ is_in_section (option_copied repos.entry) path.now rule.now }
 {
     if !same_repos(&rule.repos, repos) {
         return false;
