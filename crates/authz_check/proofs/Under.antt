@@ -2,14 +2,14 @@
 use Rattle.std.proofs.Common.{◌≡◌, ℕ, zero, suc, ◌<◌, Bool, true, false, cond, List, [], ◌∷◌, ◌++◌, length, drop, Option, None, Some, refl, sym, ap, ◌∙◌, inl, inr, arith, append_assoc}
 use Rattle.std.specs.Prelude.{◌||◌, ◌⊎◌, if◌then◌else◌, nat_eq, IsTrue}
 use Rattle.std.specs.List.{list_any, starts_with}
-use Rattle.std.specs.Option.{option_or}
+use Rattle.std.specs.Option.{option_eq, option_or}
 use Rattle.std.specs.Str.{bytes_eq}
 use Rattle.std.proofs.lemmas.Bool.Decides.{Decides-eqb}
 use Rattle.std.proofs.lemmas.Slice.Eq.{bytes_eq-Decides, starts_is}
 use Rattle.dsv_base.specs.Paths.{is_path, is_slash, is_under, root_text, before_last_slash, or_root, parent_text}
 use Rattle.authz_file.specs.declared.right.Right.{Right}
 use Rattle.authz_file.specs.declared.rule.Rule.{Rule}
-use Rattle.authz_check.specs.Access.{access, right_at, right_in, section_rules, is_in_section, same_repos}
+use Rattle.authz_check.specs.Access.{access, right_at, right_in, section_rules, is_in_section}
 use Rattle.authz_check.specs.Everywhere.{speaks_of, tested, everywhere, HoldsUnder}
 use Rattle.authz_check.proofs.AccessWalk.{IsRooted, parent_below, along-parent, rooted_path, root_from}
 use Rattle.authz_check.proofs.Bools.{or-true, and-first, and-second}
@@ -102,23 +102,23 @@ module _ (holds : Right → Bool) (rules : List Rule) (name : List ℕ) (user : 
   test = tested holds rules name user
 
   -- a path under the upper one passes, or no rule of the section has this path
-  empty_or_passes : (repos : Option (List ℕ)) → ((r : Rule) → same_repos r.repos repos ≡ true → speaks_of name r ≡ true) → (some : List Rule) → all_pass test name top some ≡ true → (p : List ℕ) → is_under p top ≡ true → (test p ≡ true) ⊎ (section_rules some repos p ≡ [])
+  empty_or_passes : (repos : Option (List ℕ)) → ((r : Rule) → option_eq bytes_eq r.repos repos ≡ true → speaks_of name r ≡ true) → (some : List Rule) → all_pass test name top some ≡ true → (p : List ℕ) → is_under p top ≡ true → (test p ≡ true) ⊎ (section_rules some repos p ≡ [])
   empty_or_passes repos speaks [] pass p under = inr refl
   empty_or_passes repos speaks (r ∷ rs) pass p under = pick (is_in_section repos p r) refl (empty_or_passes repos speaks rs (others_pass test name top r rs pass) p under)
     where
       pick : (b : Bool) → is_in_section repos p r ≡ b → (test p ≡ true) ⊎ (section_rules rs repos p ≡ []) → (test p ≡ true) ⊎ (cond b (r ∷ section_rules rs repos p) (section_rules rs repos p) ≡ [])
       pick true member others =
-          let same : same_repos r.repos repos ≡ true = and-first _ _ member in
+          let same : option_eq bytes_eq r.repos repos ≡ true = and-first _ _ member in
           let at : r.path ≡ p = (bytes_eq-Decides r.path p).0 (and-second _ _ member) in
           let passed : test r.path ≡ true = first_passes test name top r rs pass (speaks r same) (ap (λ q. is_under q top) at ∙ under) in
           inl (sym (ap test at) ∙ passed)
       pick false member others = others
 
-  speaks_plain : (r : Rule) → same_repos r.repos None ≡ true → speaks_of name r ≡ true
-  speaks_plain r h = ap (λ b. b || same_repos r.repos (Some name)) h
+  speaks_plain : (r : Rule) → option_eq bytes_eq r.repos None ≡ true → speaks_of name r ≡ true
+  speaks_plain r h = ap (λ b. b || option_eq bytes_eq r.repos (Some name)) h
 
-  speaks_own : (r : Rule) → same_repos r.repos (Some name) ≡ true → speaks_of name r ≡ true
-  speaks_own r h = ap (λ b. same_repos r.repos None || b) h ∙ or-true (same_repos r.repos None)
+  speaks_own : (r : Rule) → option_eq bytes_eq r.repos (Some name) ≡ true → speaks_of name r ≡ true
+  speaks_own r h = ap (λ b. option_eq bytes_eq r.repos None || b) h ∙ or-true (option_eq bytes_eq r.repos None)
 
   -- a path under the upper one passes, or no rule of it gives the user a right
   pub passes_or_nothing : all_pass test name top rules ≡ true → (p : List ℕ) → is_under p top ≡ true → (test p ≡ true) ⊎ (right_at rules name user p ≡ None)

@@ -1,12 +1,12 @@
 -- The right that a section gives, whatever the order of its rules.
 use Rattle.std.proofs.Common.{◌≡◌, ℕ, zero, suc, ◌<◌, ◌≤◌, Bool, true, false, cond, List, [], ◌∷◌, map, length, get_or, Option, None, Some, refl, ap, ◌∙◌, arith}
 use Rattle.std.specs.Prelude.{◌&&◌, max, fold, if◌then◌else◌}
-use Rattle.std.specs.List.{filter, Contains, slice_get}
+use Rattle.std.specs.List.{filter, Contains, reduce, slice_get}
 use Rattle.std.specs.Option.{option_map_or}
 use Rattle.authz_file.specs.declared.right.Right.{Right}
 use Rattle.authz_file.specs.declared.right.Right.TheVariants.{No, Read, Write}
 use Rattle.authz_file.specs.declared.rule.Rule.{Rule}
-use Rattle.authz_check.specs.Access.{greater, greatest, right_in, section_rules, is_in_section, matches}
+use Rattle.authz_check.specs.Access.{greater, right_in, section_rules, is_in_section, matches}
 use Rattle.authz_check.specs.Order.{HasEach}
 use Rattle.authz_check.specs.Weights.{level, weight, weight_at, top}
 
@@ -25,11 +25,11 @@ pub level-raised : (best : Option Right) (right : Right) → level (Some (option
 level-raised None right = omega arith
 level-raised (Some found) right = level-greater found right
 
-level-fold : (r : Right) (rs : List Right) → level (Some (fold greater r rs)) ≡ max (level (Some r)) (level (greatest rs))
+level-fold : (r : Right) (rs : List Right) → level (Some (fold greater r rs)) ≡ max (level (Some r)) (level (reduce greater rs))
 level-fold r [] = omega arith
 level-fold r (s ∷ ss) =
-    let whole : level (Some (fold greater (greater r s) ss)) ≡ max (level (Some (greater r s))) (level (greatest ss)) = level-fold (greater r s) ss in
-    let rest : level (Some (fold greater s ss)) ≡ max (level (Some s)) (level (greatest ss)) = level-fold s ss in
+    let whole : level (Some (fold greater (greater r s) ss)) ≡ max (level (Some (greater r s))) (level (reduce greater ss)) = level-fold (greater r s) ss in
+    let rest : level (Some (fold greater s ss)) ≡ max (level (Some s)) (level (reduce greater ss)) = level-fold s ss in
     let two : level (Some (greater r s)) ≡ max (level (Some r)) (level (Some s)) = level-greater r s in
     omega arith
 
@@ -62,7 +62,7 @@ module _ (user repos : Option (List ℕ)) (path : List ℕ) where
       others : List Rule
       others = section_rules rs repos path
 
-      inner : (m : Bool) → level (right_in user others) ≡ top w rs → level (greatest (map (λ (rule : Rule). rule.right) (cond m (r ∷ filter (λ rule. matches rule user) others) (filter (λ rule. matches rule user) others)))) ≡ max (if m then level (Some r.right) else 0) (top w rs)
+      inner : (m : Bool) → level (right_in user others) ≡ top w rs → level (reduce greater (map (λ (rule : Rule). rule.right) (cond m (r ∷ filter (λ rule. matches rule user) others) (filter (λ rule. matches rule user) others)))) ≡ max (if m then level (Some r.right) else 0) (top w rs)
       inner true rest = level-fold r.right (map (λ (rule : Rule). rule.right) (filter (λ rule. matches rule user) others)) ∙ ap (max (level (Some r.right))) rest
       inner false rest = omega arith
 

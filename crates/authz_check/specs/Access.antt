@@ -1,7 +1,7 @@
 -- Who may do what at a path (Subversion Book, "Path-Based Authorization").
-use Rattle.std.specs.Prelude.{ℕ, Bool, true, false, not, ◌&&◌, List, [], ◌∷◌, Option, None, Some, map, filter, fold, is_some, slice_index_or, if◌then◌else◌}
-use Rattle.std.specs.List.{list_any, filter_map}
-use Rattle.std.specs.Option.{option_map_or, option_or}
+use Rattle.std.specs.Prelude.{ℕ, Bool, true, false, not, ◌&&◌, List, Option, None, Some, map, filter, is_some, slice_index_or, if◌then◌else◌}
+use Rattle.std.specs.List.{list_any, filter_map, reduce}
+use Rattle.std.specs.Option.{option_eq, option_map_or, option_or}
 use Rattle.std.specs.Str.{bytes_eq}
 use Rattle.dsv_base.specs.Paths.{ancestors}
 use Rattle.authz_file.specs.declared.base.Base.{Base}
@@ -28,25 +28,14 @@ greater Read Write = Write
 greater Read other = Read
 greater Write other = Write
 
--- the greatest of some rights, if there are any
-abbrev pub greatest : List Right → Option Right
-greatest [] = None
-greatest (r ∷ rs) = Some (fold greater r rs)
-
 -- what the rules of one section give the user: the greatest right of those that speak of this user,
 -- if any does
 abbrev pub right_in : Option (List ℕ) → List Rule → Option Right
-right_in user rules = greatest (map (λ rule. rule.right) (filter (λ rule. matches rule user) rules))
-
--- both name the same repository, or both none
-abbrev pub same_repos : Option (List ℕ) → Option (List ℕ) → Bool
-same_repos None None = true
-same_repos (Some a) (Some b) = bytes_eq a b
-same_repos a b = false
+right_in user rules = reduce greater (map (λ rule. rule.right) (filter (λ rule. matches rule user) rules))
 
 -- the rule stands in the section of this path that names this repository, or none
 abbrev pub is_in_section : Option (List ℕ) → List ℕ → Rule → Bool
-is_in_section repos path rule = same_repos rule.repos repos && bytes_eq rule.path path
+is_in_section repos path rule = option_eq bytes_eq rule.repos repos && bytes_eq rule.path path
 
 -- the rules of one section, which names a repository and a path, or a path alone
 abbrev pub section_rules : List Rule → Option (List ℕ) → List ℕ → List Rule

@@ -1,8 +1,9 @@
 //! The right that the rules of one path give.
 
 ghost use Rattle.std.specs.Prelude.{◌≡◌, max, true};
-ghost use Rattle.std.specs.Option.{option_copied};
-ghost use Rattle.authz_check.specs.Access.{right_at, right_in, section_rules, is_in_section, same_repos};
+ghost use Rattle.std.specs.Option.{option_copied, option_eq};
+ghost use Rattle.std.specs.Str.{bytes_eq};
+ghost use Rattle.authz_check.specs.Access.{right_at, right_in, section_rules, is_in_section};
 ghost use Rattle.authz_check.specs.Everywhere.{speaks_of};
 ghost use Rattle.authz_check.specs.Order.{HasEach};
 ghost use Rattle.authz_check.specs.Weights.{level, weight, weight_at};
@@ -105,7 +106,7 @@ pub fn speaks_of(name: &[u8], rule: &Rule) -> bool
 }
 
 fn same_repos(left: &Option<Bytes>, right: Option<&[u8]>) -> bool
-    ensures { result ≡ same_repos left.now (option_copied right.entry) }
+    ensures { result ≡ option_eq bytes_eq left.now (option_copied right.entry) }
 {
     match (left, right) {
         (None, None) => true,
