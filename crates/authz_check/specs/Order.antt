@@ -1,4 +1,4 @@
--- The places of rules in their list, in byte order of the rules' paths.
+-- What the program's own calls say of the places of rules in their list, and of their order by path.
 use Rattle.std.specs.Prelude.{◌≡◌, ℕ, Bool, ◌&&◌, List, [], Option, None, Some, true, false}
 use Rattle.std.specs.List.{Contains, slice_get}
 use Rattle.std.specs.List.Sorted.{IsSortedBy}

@@ -1,4 +1,4 @@
--- Rights as numbers.
+-- What the program's own calls say of rights as numbers.
 use Rattle.std.specs.Prelude.{ℕ, ◌+◌, ◌&&◌, List, [], ◌∷◌, Option, None, Some, max, if◌then◌else◌}
 use Rattle.std.specs.List.{slice_get}
 use Rattle.std.specs.Option.{option_map_or}

@@ -1,7 +1,7 @@
 -- The entries of a file, in the order of their lines, or the first line that breaks the grammar.
-use Rattle.std.specs.Prelude.{ℕ, false, List, [], ◌∷◌, ◌++◌, Option, None, Some, Result, Ok, Err, ◌≡◌, if◌then◌else◌}
+use Rattle.std.specs.Prelude.{ℕ, false, List, [], ◌∷◌, ◌++◌, Option, None, Some, Result, Ok, Err, if◌then◌else◌}
 use Rattle.std.specs.Option.{ok_or}
-use Rattle.dsv_base.specs.Gives.{◌>>=◌, Gives}
+use Rattle.dsv_base.specs.Gives.{◌>>=◌}
 use Rattle.dsv_base.specs.TextFiles.{file_lines}
 use Rattle.authz_file.specs.declared.entry.Entry.{Entry}
 use Rattle.authz_file.specs.declared.line.Line.{Line}
@@ -11,7 +11,6 @@ use Rattle.authz_file.specs.declared.rules_fault.RulesFault.{RulesFault}
 use Rattle.authz_file.specs.declared.rules_fault.RulesFault.TheVariants.{BadLine, BadSection, BadAccess}
 use Rattle.authz_file.specs.declared.section.Section.{Section}
 use Rattle.authz_file.specs.declared.section.Section.TheVariants.{Groups, Aliases, At}
-use Rattle.authz_file.specs.Faults.{is_no_memory}
 use Rattle.authz_file.specs.Lines.{joined_lines}
 use Rattle.authz_file.specs.Sections.{section_of, place_name}
 use Rattle.authz_file.specs.Words.{key_value, words_of, is_user, is_negated, principal_of, who_of, own_words, right_of}
@@ -57,15 +56,3 @@ entries_of section (Body line text ∷ rest) = entry_at section line text >>= (�
 
 unfoldable pub file_entries : List ℕ → Result (List Entry) RulesFault
 file_entries bytes = entries_of None (joined_lines false 1 (file_lines bytes))
-
--- entries that come before those that are read
-abbrev pub with_front : List Entry → Result (List Entry) RulesFault → Result (List Entry) RulesFault
-with_front front read = read >>= (λ entries. Ok (front ++ entries))
-
--- one more line is read: the entries and the section are the first, and then the second
-abbrev pub Reads : Option Section × List Entry → Line → Option Section × List Entry → Type 0
-Reads before line after = (rest : List Line) → with_front before.1 (entries_of before.0 (line ∷ rest)) ≡ with_front after.1 (entries_of after.0 rest)
-
--- the line is refused
-abbrev pub Refuses : Option Section → Line → RulesFault → Type 0
-Refuses section line fault = (rest : List Line) → Gives {X = List Entry} is_no_memory (Err fault) (entries_of section (line ∷ rest))

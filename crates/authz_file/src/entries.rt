@@ -3,7 +3,8 @@ ghost use Rattle.dsv_base.specs.Gives.{Gives};
 ghost use Rattle.authz_file.specs.Faults.{is_no_memory};
 ghost use Rattle.authz_file.specs.Words.{own_words};
 ghost use Rattle.authz_file.specs.Sections.{place_name};
-ghost use Rattle.authz_file.specs.Entries.{group_entry, alias_entry, grant_entry, entry_in, entry_at, section_at, entries_of, Reads, Refuses};
+ghost use Rattle.authz_file.specs.Entries.{group_entry, alias_entry, grant_entry, entry_in, entry_at, section_at, entries_of};
+ghost use Rattle.authz_file.specs.Reading.{Reads, Refuses};
 
 use crate::entry::Entry;
 use crate::grant::Grant;
