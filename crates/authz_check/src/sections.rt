@@ -1,6 +1,6 @@
 //! The right that the rules of one path give.
 
-ghost use Rattle.std.specs.Prelude.{◌≡◌, max, true};
+ghost use Rattle.std.specs.Prelude.{◌≡◌, max, true, None, Some};
 ghost use Rattle.std.specs.Option.{option_copied, option_eq};
 ghost use Rattle.std.specs.Str.{bytes_eq};
 ghost use Rattle.authz_check.specs.Access.{right_at, right_in, section_rules, is_in_section};
@@ -21,7 +21,8 @@ pub fn right_at(
     user: Option<&[u8]>,
     path: &[u8],
 ) -> Option<Right>
-    requires { HasEach (λ rule. (speaks_of name.now rule ≡ true) × (rule.path ≡ path.now)) rules.now places.now }
+    requires own { HasEach (λ rule. is_in_section (Some name.now) path.now rule ≡ true) rules.now places.now }
+    requires plain { HasEach (λ rule. is_in_section None path.now rule ≡ true) rules.now places.now }
     ensures { result ≡ right_at rules.now name.now (option_copied user.entry) path.now }
 {
     match right_in(rules, places, Some(name), user, path) {
