@@ -55,6 +55,5 @@ gives_reading No = false
 gives_reading Read = true
 gives_reading Write = true
 
--- the user may read the path
 unfoldable pub can_read : List Rule → List ℕ → Option (List ℕ) → List ℕ → Bool
 can_read rules name user path = gives_reading (access rules name user path)

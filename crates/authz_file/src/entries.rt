@@ -143,7 +143,6 @@ fn grant_entry(
     })
 }
 
-/// A line with this key and this value.
 fn entry_in(
     alloc: Global,
     section: &Option<Section>,
