@@ -2,7 +2,7 @@ mod AccessRows
 mod AccessWalk
 mod Bools
 mod Ordered
-mod Sections
+mod SectionsBelow
 mod Speaking
 mod Under
 mod Weighed

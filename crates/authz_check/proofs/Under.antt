@@ -2,18 +2,18 @@
 use Rattle.std.proofs.Common.{◌≡◌, ℕ, zero, suc, ◌<◌, Bool, true, false, cond, List, [], ◌∷◌, ◌++◌, length, drop, Option, None, Some, refl, sym, ap, ◌∙◌, inl, inr, arith, append_assoc}
 use Rattle.std.specs.Prelude.{◌||◌, ◌⊎◌, if◌then◌else◌, nat_eq, IsTrue}
 use Rattle.std.specs.List.{list_any, starts_with}
-use Rattle.std.specs.Option.{option_or}
+use Rattle.std.specs.Option.{option_eq, option_or}
 use Rattle.std.specs.Str.{bytes_eq}
 use Rattle.std.proofs.lemmas.Bool.Decides.{Decides-eqb}
 use Rattle.std.proofs.lemmas.Slice.Eq.{bytes_eq-Decides, starts_is}
 use Rattle.dsv_base.specs.Paths.{is_path, is_slash, is_under, root_text, before_last_slash, or_root, parent_text}
 use Rattle.authz_file.specs.declared.right.Right.{Right}
 use Rattle.authz_file.specs.declared.rule.Rule.{Rule}
-use Rattle.authz_check.specs.Access.{access, right_at, right_in, group, is_in_group, same_repos}
+use Rattle.authz_check.specs.Access.{access, right_at, right_in, section_rules, is_in_section}
 use Rattle.authz_check.specs.Everywhere.{speaks_of, tested, everywhere, HoldsUnder}
 use Rattle.authz_check.proofs.AccessWalk.{IsRooted, parent_below, along-parent, rooted_path, root_from}
 use Rattle.authz_check.proofs.Bools.{or-true, and-first, and-second}
-use Rattle.authz_check.proofs.Sections.{all_pass, first_passes, others_pass}
+use Rattle.authz_check.proofs.SectionsBelow.{all_pass, first_passes, others_pass}
 
 -- what stands before the last slash of a text and a slash and more
 slash_within : (xs rest : List ℕ) → list_any is_slash (xs ++ 47 ∷ rest) ≡ true
@@ -101,33 +101,33 @@ module _ (holds : Right → Bool) (rules : List Rule) (name : List ℕ) (user : 
   abbrev test : List ℕ → Bool
   test = tested holds rules name user
 
-  -- a path under the upper one passes, or no rule of the group has this path
-  empty_or_passes : (repos : Option (List ℕ)) → ((r : Rule) → same_repos r.repos repos ≡ true → speaks_of name r ≡ true) → (some : List Rule) → all_pass test name top some ≡ true → (p : List ℕ) → is_under p top ≡ true → (test p ≡ true) ⊎ (group some repos p ≡ [])
+  -- a path under the upper one passes, or no rule of the section has this path
+  empty_or_passes : (repos : Option (List ℕ)) → ((r : Rule) → option_eq bytes_eq r.repos repos ≡ true → speaks_of name r ≡ true) → (some : List Rule) → all_pass test name top some ≡ true → (p : List ℕ) → is_under p top ≡ true → (test p ≡ true) ⊎ (section_rules some repos p ≡ [])
   empty_or_passes repos speaks [] pass p under = inr refl
-  empty_or_passes repos speaks (r ∷ rs) pass p under = pick (is_in_group repos p r) refl (empty_or_passes repos speaks rs (others_pass test name top r rs pass) p under)
+  empty_or_passes repos speaks (r ∷ rs) pass p under = pick (is_in_section repos p r) refl (empty_or_passes repos speaks rs (others_pass test name top r rs pass) p under)
     where
-      pick : (b : Bool) → is_in_group repos p r ≡ b → (test p ≡ true) ⊎ (group rs repos p ≡ []) → (test p ≡ true) ⊎ (cond b (r ∷ group rs repos p) (group rs repos p) ≡ [])
+      pick : (b : Bool) → is_in_section repos p r ≡ b → (test p ≡ true) ⊎ (section_rules rs repos p ≡ []) → (test p ≡ true) ⊎ (cond b (r ∷ section_rules rs repos p) (section_rules rs repos p) ≡ [])
       pick true member others =
-          let same : same_repos r.repos repos ≡ true = and-first _ _ member in
+          let same : option_eq bytes_eq r.repos repos ≡ true = and-first _ _ member in
           let at : r.path ≡ p = (bytes_eq-Decides r.path p).0 (and-second _ _ member) in
           let passed : test r.path ≡ true = first_passes test name top r rs pass (speaks r same) (ap (λ q. is_under q top) at ∙ under) in
           inl (sym (ap test at) ∙ passed)
       pick false member others = others
 
-  speaks_plain : (r : Rule) → same_repos r.repos None ≡ true → speaks_of name r ≡ true
-  speaks_plain r h = ap (λ b. b || same_repos r.repos (Some name)) h
+  speaks_plain : (r : Rule) → option_eq bytes_eq r.repos None ≡ true → speaks_of name r ≡ true
+  speaks_plain r h = ap (λ b. b || option_eq bytes_eq r.repos (Some name)) h
 
-  speaks_own : (r : Rule) → same_repos r.repos (Some name) ≡ true → speaks_of name r ≡ true
-  speaks_own r h = ap (λ b. same_repos r.repos None || b) h ∙ or-true (same_repos r.repos None)
+  speaks_own : (r : Rule) → option_eq bytes_eq r.repos (Some name) ≡ true → speaks_of name r ≡ true
+  speaks_own r h = ap (λ b. option_eq bytes_eq r.repos None || b) h ∙ or-true (option_eq bytes_eq r.repos None)
 
   -- a path under the upper one passes, or no rule of it gives the user a right
   pub passes_or_nothing : all_pass test name top rules ≡ true → (p : List ℕ) → is_under p top ≡ true → (test p ≡ true) ⊎ (right_at rules name user p ≡ None)
   passes_or_nothing pass p under = both (empty_or_passes (Some name) speaks_own rules pass p under) (empty_or_passes None speaks_plain rules pass p under)
     where
-      both : (test p ≡ true) ⊎ (group rules (Some name) p ≡ []) → (test p ≡ true) ⊎ (group rules None p ≡ []) → (test p ≡ true) ⊎ (right_at rules name user p ≡ None)
+      both : (test p ≡ true) ⊎ (section_rules rules (Some name) p ≡ []) → (test p ≡ true) ⊎ (section_rules rules None p ≡ []) → (test p ≡ true) ⊎ (right_at rules name user p ≡ None)
       both (inl passed) plain = inl passed
       both (inr own) (inl passed) = inl passed
-      both (inr own) (inr plain) = inr (ap (λ some. option_or (right_in user some) (right_in user (group rules None p))) own ∙ ap (λ some. option_or None (right_in user some)) plain)
+      both (inr own) (inr plain) = inr (ap (λ some. option_or (right_in user some) (right_in user (section_rules rules None p))) own ∙ ap (λ some. option_or None (right_in user some)) plain)
 
   -- a path that no rule gives the user a right at has its parent's right
   goes_up : (p q : List ℕ) → IsRooted p → right_at rules name user p ≡ None → parent_text p ≡ Some q → access rules name user p ≡ access rules name user q

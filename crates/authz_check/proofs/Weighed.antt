@@ -1,12 +1,12 @@
--- The right that a group gives, whatever the order of its rules.
+-- The right that a section gives, whatever the order of its rules.
 use Rattle.std.proofs.Common.{◌≡◌, ℕ, zero, suc, ◌<◌, ◌≤◌, Bool, true, false, cond, List, [], ◌∷◌, map, length, get_or, Option, None, Some, refl, ap, ◌∙◌, arith}
 use Rattle.std.specs.Prelude.{◌&&◌, max, fold, if◌then◌else◌}
-use Rattle.std.specs.List.{filter, Contains, slice_get}
+use Rattle.std.specs.List.{filter, Contains, reduce, slice_get}
 use Rattle.std.specs.Option.{option_map_or}
 use Rattle.authz_file.specs.declared.right.Right.{Right}
 use Rattle.authz_file.specs.declared.right.Right.TheVariants.{No, Read, Write}
 use Rattle.authz_file.specs.declared.rule.Rule.{Rule}
-use Rattle.authz_check.specs.Access.{greater, greatest, right_in, group, is_in_group, matches}
+use Rattle.authz_check.specs.Access.{greater, right_in, section_rules, is_in_section, matches}
 use Rattle.authz_check.specs.Order.{HasEach}
 use Rattle.authz_check.specs.Weights.{level, weight, weight_at, top}
 
@@ -25,11 +25,11 @@ pub level-raised : (best : Option Right) (right : Right) → level (Some (option
 level-raised None right = omega arith
 level-raised (Some found) right = level-greater found right
 
-level-fold : (r : Right) (rs : List Right) → level (Some (fold greater r rs)) ≡ max (level (Some r)) (level (greatest rs))
+level-fold : (r : Right) (rs : List Right) → level (Some (fold greater r rs)) ≡ max (level (Some r)) (level (reduce greater rs))
 level-fold r [] = omega arith
 level-fold r (s ∷ ss) =
-    let whole : level (Some (fold greater (greater r s) ss)) ≡ max (level (Some (greater r s))) (level (greatest ss)) = level-fold (greater r s) ss in
-    let rest : level (Some (fold greater s ss)) ≡ max (level (Some s)) (level (greatest ss)) = level-fold s ss in
+    let whole : level (Some (fold greater (greater r s) ss)) ≡ max (level (Some (greater r s))) (level (reduce greater ss)) = level-fold (greater r s) ss in
+    let rest : level (Some (fold greater s ss)) ≡ max (level (Some s)) (level (reduce greater ss)) = level-fold s ss in
     let two : level (Some (greater r s)) ≡ max (level (Some r)) (level (Some s)) = level-greater r s in
     omega arith
 
@@ -55,14 +55,14 @@ module _ (user repos : Option (List ℕ)) (path : List ℕ) where
   abbrev w : Rule → ℕ
   w = weight user repos path
 
-  level-group : (rules : List Rule) → level (right_in user (group rules repos path)) ≡ top w rules
-  level-group [] = refl
-  level-group (r ∷ rs) = outer (is_in_group repos path r) (level-group rs)
+  level-section : (rules : List Rule) → level (right_in user (section_rules rules repos path)) ≡ top w rules
+  level-section [] = refl
+  level-section (r ∷ rs) = outer (is_in_section repos path r) (level-section rs)
     where
       others : List Rule
-      others = group rs repos path
+      others = section_rules rs repos path
 
-      inner : (m : Bool) → level (right_in user others) ≡ top w rs → level (greatest (map (λ (rule : Rule). rule.right) (cond m (r ∷ filter (λ rule. matches rule user) others) (filter (λ rule. matches rule user) others)))) ≡ max (if m then level (Some r.right) else 0) (top w rs)
+      inner : (m : Bool) → level (right_in user others) ≡ top w rs → level (reduce greater (map (λ (rule : Rule). rule.right) (cond m (r ∷ filter (λ rule. matches rule user) others) (filter (λ rule. matches rule user) others)))) ≡ max (if m then level (Some r.right) else 0) (top w rs)
       inner true rest = level-fold r.right (map (λ (rule : Rule). rule.right) (filter (λ rule. matches rule user) others)) ∙ ap (max (level (Some r.right))) rest
       inner false rest = omega arith
 
@@ -82,13 +82,13 @@ module _ (user repos : Option (List ℕ)) (path : List ℕ) where
       let rest : top w rs ≤ n = top-least rs n (λ i rule is. h (suc i) rule is) in
       omega arith
 
-  -- all rules of the group were met, and what was found is some rule's
-  pub found_all : (rules : List Rule) (places : List ℕ) (best : Option Right) → HasEach (λ rule. is_in_group repos path rule ≡ true) rules places
-      → ((k d : ℕ) → k < length places → weight_at user repos path rules (get_or places k d) ≤ level best) → level best ≤ top w rules → best ≡ right_in user (group rules repos path)
+  -- all rules of the section were met, and what was found is some rule's
+  pub found_all : (rules : List Rule) (places : List ℕ) (best : Option Right) → HasEach (λ rule. is_in_section repos path rule ≡ true) rules places
+      → ((k d : ℕ) → k < length places → weight_at user repos path rules (get_or places k d) ≤ level best) → level best ≤ top w rules → best ≡ right_in user (section_rules rules repos path)
   found_all rules places best each reached attained =
-      let most : top w rules ≤ level best = top-least rules (level best) (λ i rule is. one i rule is (is_in_group repos path rule) refl) in
-      let group_is : level (right_in user (group rules repos path)) ≡ top w rules = level-group rules in
-      same_level best (right_in user (group rules repos path)) (omega arith)
+      let most : top w rules ≤ level best = top-least rules (level best) (λ i rule is. one i rule is (is_in_section repos path rule) refl) in
+      let section_is : level (right_in user (section_rules rules repos path)) ≡ top w rules = level-section rules in
+      same_level best (right_in user (section_rules rules repos path)) (omega arith)
     where
       met : (i : ℕ) (rule : Rule) → slice_get rules i ≡ Some rule → Contains places i → w rule ≤ level best
       met i rule is (k, within, at) =
@@ -96,7 +96,7 @@ module _ (user repos : Option (List ℕ)) (path : List ℕ) where
           let same : weight_at user repos path rules (get_or places k i) ≡ w rule = ap (weight_at user repos path rules) at ∙ ap (λ o. option_map_or w o 0) is in
           omega arith
 
-      one : (i : ℕ) (rule : Rule) → slice_get rules i ≡ Some rule → (g : Bool) → is_in_group repos path rule ≡ g → w rule ≤ level best
+      one : (i : ℕ) (rule : Rule) → slice_get rules i ≡ Some rule → (g : Bool) → is_in_section repos path rule ≡ g → w rule ≤ level best
       one i rule is true member = met i rule is (each i rule is member)
       one i rule is false member =
           let none : w rule ≡ 0 = ap (λ b. if b && matches rule user then level (Some rule.right) else 0) member in

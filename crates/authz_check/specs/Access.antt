@@ -1,7 +1,7 @@
 -- Who may do what at a path (Subversion Book, "Path-Based Authorization").
-use Rattle.std.specs.Prelude.{ℕ, Bool, true, false, not, ◌&&◌, List, [], ◌∷◌, Option, None, Some, map, filter, fold, is_some, slice_index_or, if◌then◌else◌}
-use Rattle.std.specs.List.{list_any, filter_map}
-use Rattle.std.specs.Option.{option_map_or, option_or}
+use Rattle.std.specs.Prelude.{ℕ, Bool, true, false, not, ◌&&◌, List, Option, None, Some, map, filter, is_some, slice_index_or, if◌then◌else◌}
+use Rattle.std.specs.List.{list_any, filter_map, reduce}
+use Rattle.std.specs.Option.{option_eq, option_map_or, option_or}
 use Rattle.std.specs.Str.{bytes_eq}
 use Rattle.dsv_base.specs.Paths.{ancestors}
 use Rattle.authz_file.specs.declared.base.Base.{Base}
@@ -28,33 +28,23 @@ greater Read Write = Write
 greater Read other = Read
 greater Write other = Write
 
--- the greatest of some rights, if there are any
-abbrev pub greatest : List Right → Option Right
-greatest [] = None
-greatest (r ∷ rs) = Some (fold greater r rs)
-
--- what a group of rules gives the user: the greatest right of those that speak of this user, if
--- any does
+-- what the rules of one section give the user: the greatest right of those that speak of this user,
+-- if any does
 abbrev pub right_in : Option (List ℕ) → List Rule → Option Right
-right_in user rules = greatest (map (λ rule. rule.right) (filter (λ rule. matches rule user) rules))
+right_in user rules = reduce greater (map (λ rule. rule.right) (filter (λ rule. matches rule user) rules))
 
--- both name the same repository, or both none
-abbrev pub same_repos : Option (List ℕ) → Option (List ℕ) → Bool
-same_repos None None = true
-same_repos (Some a) (Some b) = bytes_eq a b
-same_repos a b = false
+-- the rule stands in the section of this path that names this repository, or none
+abbrev pub is_in_section : Option (List ℕ) → List ℕ → Rule → Bool
+is_in_section repos path rule = option_eq bytes_eq rule.repos repos && bytes_eq rule.path path
 
-abbrev pub is_in_group : Option (List ℕ) → List ℕ → Rule → Bool
-is_in_group repos path rule = same_repos rule.repos repos && bytes_eq rule.path path
+-- the rules of one section, which names a repository and a path, or a path alone
+abbrev pub section_rules : List Rule → Option (List ℕ) → List ℕ → List Rule
+section_rules rules repos path = filter (is_in_section repos path) rules
 
--- the rules of one path that name this repository, or those of the path that name none
-abbrev pub group : List Rule → Option (List ℕ) → List ℕ → List Rule
-group rules repos path = filter (is_in_group repos path) rules
-
--- the right that the rules of one path give the user, if they give any: the group that names the
--- repository decides, and where it gives nothing the group that names none
+-- the right that the sections of one path give the user, if they give any: the section that names
+-- the repository decides, and where it gives nothing the section that names none
 abbrev pub right_at : List Rule → List ℕ → Option (List ℕ) → List ℕ → Option Right
-right_at rules name user path = option_or (right_in user (group rules (Some name) path)) (right_in user (group rules None path))
+right_at rules name user path = option_or (right_in user (section_rules rules (Some name) path)) (right_in user (section_rules rules None path))
 
 -- the first right that is given at the path, at its parent and so on up to `/`; No where none is
 unfoldable pub access : List Rule → List ℕ → Option (List ℕ) → List ℕ → Right
@@ -65,6 +55,5 @@ gives_reading No = false
 gives_reading Read = true
 gives_reading Write = true
 
--- the user may read the path
 unfoldable pub can_read : List Rule → List ℕ → Option (List ℕ) → List ℕ → Bool
 can_read rules name user path = gives_reading (access rules name user path)

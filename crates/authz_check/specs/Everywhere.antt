@@ -1,13 +1,15 @@
 -- Rights that are held at a path and at all that lies under it.
 use Rattle.std.specs.Prelude.{ℕ, Bool, true, false, ◌||◌, List, ◌∷◌, Option, None, Some, map, filter, nat_le, IsTrue}
 use Rattle.std.specs.List.{list_all}
+use Rattle.std.specs.Option.{option_eq}
+use Rattle.std.specs.Str.{bytes_eq}
 use Rattle.dsv_base.specs.Paths.{is_path, is_under}
 use Rattle.authz_file.specs.declared.right.Right.{Right}
 use Rattle.authz_file.specs.declared.right.Right.TheVariants.{No, Read, Write}
 use Rattle.authz_file.specs.declared.rule.Rule.{Rule}
 use Rattle.authz_check.specs.declared.demand.Demand.{Demand}
 use Rattle.authz_check.specs.declared.demand.Demand.TheVariants.{AtLeast, Nothing}
-use Rattle.authz_check.specs.Access.{access, same_repos}
+use Rattle.authz_check.specs.Access.{access}
 
 -- No is the least right, and Write the greatest
 abbrev pub rank : Right → ℕ
@@ -29,9 +31,11 @@ meets Nothing = is_no
 
 -- the rule stands in a section that speaks of this repository
 abbrev pub speaks_of : List ℕ → Rule → Bool
-speaks_of name rule = same_repos rule.repos None || same_repos rule.repos (Some name)
+speaks_of name rule = option_eq bytes_eq rule.repos None || option_eq bytes_eq rule.repos (Some name)
 
--- the paths of the sections that speak of this repository, as far as they lie under a path
+-- the paths of the sections that speak of this repository, as far as they lie under a path. Sections of
+-- other repositories, and those without a counting line, are left out since they change no right: where
+-- a path has no other section, its right is its parent's
 abbrev pub section_paths : List Rule → List ℕ → List ℕ → List (List ℕ)
 section_paths rules name top = filter (λ path. is_under path top) (map (λ rule. rule.path) (filter (speaks_of name) rules))
 

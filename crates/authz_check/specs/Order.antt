@@ -1,4 +1,4 @@
--- The places of rules in their list, in byte order of the rules' paths.
+-- What the program's own calls say of the places of rules in their list, and of their order by path.
 use Rattle.std.specs.Prelude.{◌≡◌, ℕ, Bool, ◌&&◌, List, [], Option, None, Some, true, false}
 use Rattle.std.specs.List.{Contains, slice_get}
 use Rattle.std.specs.List.Sorted.{IsSortedBy}
@@ -34,5 +34,5 @@ as_section name top None = None
 as_section name top (Some rule) = where_true (speaks_of name rule && is_under rule.path top) rule
 
 -- the rule at a place, where it stands in a section under the path that speaks of the repository
-abbrev pub section_at : List Rule → List ℕ → List ℕ → ℕ → Option Rule
-section_at rules name top place = as_section name top (slice_get rules place)
+abbrev pub section_rule_at : List Rule → List ℕ → List ℕ → ℕ → Option Rule
+section_rule_at rules name top place = as_section name top (slice_get rules place)

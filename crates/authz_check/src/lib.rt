@@ -4,10 +4,10 @@
 
 mod copying;
 mod demand;
-mod groups;
 mod matching;
 mod order;
 mod policy;
+mod sections;
 
 pub use policy::Policy;
 

@@ -11,7 +11,7 @@ ghost use Rattle.dsv_base.specs.Paths.{is_under};
 ghost use Rattle.authz_check.specs.Everywhere.{speaks_of};
 ghost use Rattle.authz_check.specs.Order.{path_at, HasEach, IsRising, IsOrder};
 
-use crate::groups::speaks_of;
+use crate::sections::speaks_of;
 use authz_file::Rule;
 use dsv_base::{NoMemory, Path};
 use std::alloc::Global;

@@ -5,13 +5,13 @@ ghost use Rattle.std.specs.Str.{bytes_eq};
 ghost use Rattle.dsv_base.specs.Paths.{is_under};
 ghost use Rattle.authz_check.specs.Access.{access, right_at};
 ghost use Rattle.authz_check.specs.Everywhere.{all_access, closed, everywhere, section_paths, tested, speaks_of, meets, at_least, is_no, HoldsUnder};
-ghost use Rattle.authz_check.specs.Order.{HasEach, section_at};
+ghost use Rattle.authz_check.specs.Order.{HasEach, section_rule_at};
 
 use crate::copying::copy_rules;
 use crate::demand::Demand;
-use crate::groups::{right_at, speaks_of};
 use crate::matching::meets;
 use crate::order::{order_of, places_at, places_below};
+use crate::sections::{right_at, speaks_of};
 use authz_file::{Right, Rule, Rules};
 use dsv_base::{Bytes, List, NoMemory, Path, parent_text};
 use std::alloc::Global;
@@ -114,7 +114,7 @@ impl Policy {
     {
         let mut last = path.text();
         'places: for place in self.places_below(path) {
-            let rule = match self.section_at(path, *place) {
+            let rule = match self.section_rule_at(path, *place) {
                 Some(rule) => rule,
                 None => continue,
             };
@@ -131,8 +131,8 @@ impl Policy {
 
     /// The rule at a place, where it stands in a section under the path that speaks of the
     /// repository.
-    fn section_at(&self, path: &Path, place: usize) -> Option<&Rule>
-        ensures { option_copied result ≡ section_at self.now.rules self.now.name path.now place }
+    fn section_rule_at(&self, path: &Path, place: usize) -> Option<&Rule>
+        ensures { option_copied result ≡ section_rule_at self.now.rules self.now.name path.now place }
     {
         let rule = self.rules().get(place)?;
         if !speaks_of(self.name(), rule) {

@@ -14,7 +14,7 @@ type Question = (&'static str, &'static str, Right, Right, bool);
 
 const WORKED: &str = "[/]\n* = r\nalice = rw\n[/sec]\n* =\nalice = rw\n[/sec/open]\nbob = r\n";
 
-const WORKED_QUESTIONS: [Question; 12] = [
+const WORKED_QUESTIONS: [Question; 14] = [
     ("", "/", Read, No, false),
     ("", "/pub", Read, Read, false),
     ("", "/sec", No, No, true),
@@ -27,6 +27,8 @@ const WORKED_QUESTIONS: [Question; 12] = [
     ("bob", "/sec/open", Read, Read, false),
     ("bob", "/sec/open/a/b", Read, Read, false),
     ("bob", "/security", Read, Read, false),
+    ("Alice", "/", Read, No, false),
+    ("Alice", "/sec", No, No, true),
 ];
 
 const NEGATED: &str =
@@ -41,6 +43,16 @@ const NEGATED_QUESTIONS: [Question; 8] = [
     ("", "/a/z", Write, Write, false),
     ("bob", "/b", Read, Read, false),
     ("", "/c", Read, Read, false),
+];
+
+const NEGATED_GROUP: &str = "[groups]\nstaff = alice, bob\n[/]\nalice = r\n[/a]\n~@staff = rw\n";
+
+const NEGATED_GROUP_QUESTIONS: [Question; 5] = [
+    ("alice", "/a", Read, Read, false),
+    ("bob", "/a", No, No, true),
+    ("", "/a", Write, Write, false),
+    ("carol", "/a/x", Write, Write, false),
+    ("carol", "/", No, No, false),
 ];
 
 const PRINCIPALS: &str =
@@ -70,6 +82,24 @@ const REPOSITORIES_QUESTIONS: [Question; 9] = [
     ("alice", "/a/c/d", Write, Write, false),
 ];
 
+/// The same file as it bears on the repository `other`.
+const OTHER_QUESTIONS: [Question; 5] = [
+    ("", "/", Read, Read, false),
+    ("alice", "/", Read, Read, false),
+    ("bob", "/a", Write, Write, false),
+    ("", "/a/b", Write, Write, false),
+    ("bob", "/a/c", Write, Write, false),
+];
+
+const FOREIGN: &str = "[/]\n* = r\n[other:/a/b]\n* =\n[/c]\n* =\n[other:/c/d]\n* = rw\n";
+
+const FOREIGN_QUESTIONS: [Question; 4] = [
+    ("", "/", Read, No, false),
+    ("", "/a", Read, Read, false),
+    ("", "/c", No, No, true),
+    ("", "/c/d", No, No, true),
+];
+
 const UNION: &str = "[groups]\nboth = alice, bob\n[/]\n@both = r\nbob = rw\n* =\ncarol = rw\n";
 
 const UNION_QUESTIONS: [Question; 5] = [
@@ -92,6 +122,11 @@ const NEIGHBOURS_QUESTIONS: [Question; 7] = [
     ("", "/b", No, No, true),
 ];
 
+const BESIDE: &str =
+    "[/a]\n* = r\n[/ab]\n* =\n[/a-b]\n* =\n[/c]\n* =\n[/c0]\n* = rw\n[/c.d]\n* = rw\n";
+
+const BESIDE_QUESTIONS: [Question; 2] = [("", "/a", Read, Read, false), ("", "/c", No, No, true)];
+
 const NONE_QUESTIONS: [Question; 2] = [("alice", "/", No, No, true), ("", "/a/b", No, No, true)];
 
 fn rules_of(alloc: Global, file: &str) -> Result<Rules, RulesFault>
@@ -113,16 +148,13 @@ fn check_question<R: Abort + AllocGlobal>(
         Some(name.as_bytes())
     };
     assert_eq!(rt; policy.access(user, &path), right, "{name:?} at {text:?}");
-    assert_eq!(rt;
-        policy.all_access(user, &path, Read),
-        everywhere >= Read,
-        "{name:?} under {text:?}"
-    );
-    assert_eq!(rt;
-        policy.all_access(user, &path, Write),
-        everywhere >= Write,
-        "{name:?} under {text:?}"
-    );
+    'rights: for want in &[No, Read, Write] {
+        assert_eq!(rt;
+            policy.all_access(user, &path, *want),
+            everywhere >= *want,
+            "{name:?} under {text:?}"
+        );
+    }
     assert_eq!(rt;
         policy.closed(user, &path),
         closed,
@@ -133,12 +165,13 @@ fn check_question<R: Abort + AllocGlobal>(
 
 fn check_questions<R: Abort + AllocGlobal>(
     rt: &R,
+    repos: &str,
     file: &str,
     questions: &[Question],
 ) -> Result<(), Fail> {
     assert!(rt; file.len() < 1000);
     let rules = rules_of(rt.alloc(), file)?;
-    let policy = Policy::new(rt.alloc(), &rules, b"demo")?;
+    let policy = Policy::new(rt.alloc(), &rules, repos.as_bytes())?;
     'questions: for question in questions {
         check_question(rt, &policy, question)?;
     }
@@ -147,11 +180,19 @@ fn check_questions<R: Abort + AllocGlobal>(
 
 #[test]
 fn questions(rt: HostRuntime) -> Result<(), Fail> {
-    check_questions(&rt, WORKED, &WORKED_QUESTIONS)?;
-    check_questions(&rt, NEGATED, &NEGATED_QUESTIONS)?;
-    check_questions(&rt, PRINCIPALS, &PRINCIPALS_QUESTIONS)?;
-    check_questions(&rt, REPOSITORIES, &REPOSITORIES_QUESTIONS)?;
-    check_questions(&rt, UNION, &UNION_QUESTIONS)?;
-    check_questions(&rt, NEIGHBOURS, &NEIGHBOURS_QUESTIONS)?;
-    check_questions(&rt, "", &NONE_QUESTIONS)
+    check_questions(&rt, "demo", WORKED, &WORKED_QUESTIONS)?;
+    check_questions(&rt, "demo", NEGATED, &NEGATED_QUESTIONS)?;
+    check_questions(&rt, "demo", NEGATED_GROUP, &NEGATED_GROUP_QUESTIONS)?;
+    check_questions(&rt, "demo", PRINCIPALS, &PRINCIPALS_QUESTIONS)?;
+    check_questions(&rt, "demo", UNION, &UNION_QUESTIONS)?;
+    check_questions(&rt, "demo", "", &NONE_QUESTIONS)
+}
+
+#[test]
+fn repositories_and_neighbours(rt: HostRuntime) -> Result<(), Fail> {
+    check_questions(&rt, "demo", REPOSITORIES, &REPOSITORIES_QUESTIONS)?;
+    check_questions(&rt, "other", REPOSITORIES, &OTHER_QUESTIONS)?;
+    check_questions(&rt, "demo", FOREIGN, &FOREIGN_QUESTIONS)?;
+    check_questions(&rt, "demo", NEIGHBOURS, &NEIGHBOURS_QUESTIONS)?;
+    check_questions(&rt, "demo", BESIDE, &BESIDE_QUESTIONS)
 }

@@ -5,7 +5,7 @@ use Rattle.authz_file.specs.Faults.{is_no_memory}
 use Rattle.authz_file.specs.declared.rules_fault.RulesFault.{RulesFault}
 use Rattle.authz_file.specs.declared.rules_fault.RulesFault.TheVariants.{BadLine, BadSection, BadAccess, UnknownGroup, UnknownAlias, GroupCycle, NoMemory}
 use Rattle.authz_file.specs.declared.entry.Entry.{Entry}
-use Rattle.authz_file.specs.Entries.{with_front}
+use Rattle.authz_file.specs.Reading.{with_front}
 
 pub with_front-nil : (read : Result (List Entry) RulesFault) → with_front [] read ≡ read
 with_front-nil (Ok xs) = refl

@@ -2,12 +2,13 @@
 use Rattle.std.proofs.Common.{◌≡◌, ℕ, zero, suc, ◌+◌, ◌<◌, Bool, true, false, List, [], ◌∷◌, ◌++◌, Option, Some, None, length, take, get_or, nat_eq, refl, ap, sym, ◌∙◌, subst, arith, ⊎_elim}
 use Rattle.std.specs.Prelude.{if◌then◌else◌, option_to_list, map, IfSome}
 use Rattle.std.specs.List.{filter_map, cons_option, list_any}
+use Rattle.std.specs.Option.{option_or}
 use Rattle.std.specs.Str.{bytes_eq}
 use Rattle.std.proofs.lemmas.List.{take_more, length-map}
 use Rattle.std.proofs.lemmas.List.Elements.{filter_map-append}
 use Rattle.authz_file.specs.declared.entry.Entry.{Entry}
 use Rattle.authz_file.specs.Words.{is_user}
-use Rattle.authz_file.specs.Groups.{last_from, later, named_at, place_of_label, target, targets}
+use Rattle.authz_file.specs.Groups.{last_from, named_at, place_of_label, target, targets}
 use Rattle.authz_file.specs.Searching.{Has, IsGraph}
 use Rattle.authz_file.proofs.Reach.{or_true, equal}
 
@@ -27,7 +28,7 @@ last_within : (es : List Entry) (n : ℕ) (label : List ℕ) → IfSome (last_fr
 last_within [] n label = tt
 last_within (e ∷ es) n label = either (last_from (n + 1) es label) (bytes_eq label e.label) (last_within es (n + 1) label)
   where
-    either : (o : Option ℕ) (b : Bool) → IfSome o (λ p. p < n + 1 + length es) → IfSome (later o (if b then Some n else None)) (λ p. p < n + suc (length es))
+    either : (o : Option ℕ) (b : Bool) → IfSome o (λ p. p < n + 1 + length es) → IfSome (option_or o (if b then Some n else None)) (λ p. p < n + suc (length es))
     either None true h = omega arith
     either None false h = tt
     either (Some p) b h = omega arith

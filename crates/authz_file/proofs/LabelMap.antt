@@ -5,6 +5,7 @@ use Rattle.std.specs.BTreeMap.{insert_entry}
 use Rattle.std.specs.Cmp.Lexicographic.{slice_cmp}
 use Rattle.std.specs.Map.{lookup}
 use Rattle.std.specs.Ordering.{match_ordering, nat_cmp, is_eq}
+use Rattle.std.specs.Option.{option_or}
 use Rattle.std.specs.Str.{bytes_eq}
 use Rattle.std.proofs.lemmas.Grind.{common_steps}
 use Rattle.std.proofs.lemmas.List.{take_more}
@@ -12,7 +13,7 @@ use Rattle.std.proofs.lemmas.Cmp.{tied_itself, nat_list_cmp_total}
 use Rattle.std.proofs.lemmas.Map.Lookups.{exact_bytes}
 use Rattle.std.proofs.lemmas.Map.Text.{is_eq-slice_cmp}
 use Rattle.authz_file.specs.declared.entry.Entry.{Entry}
-use Rattle.authz_file.specs.Groups.{last_from, later, place_of_label}
+use Rattle.authz_file.specs.Groups.{last_from, place_of_label}
 
 equal_from : (o : Ordering) → is_eq o ≡ true → o ≡ Equal
 equal_from Less h = cc
@@ -59,7 +60,7 @@ module _ {K : Type 0} (text : K → List ℕ) where
       either Greater h rest = ap (cond (at q e.0) (Some e.1)) rest ∙ turned (at q e.0) (at q key) (Some e.1) (Some v) (lookup (at q) es) (λ a b. apart (text key) (text e.0) h q b a)
 
 -- the last place, with one more entry at the end
-later-some : (o : Option ℕ) (b : Bool) (n : ℕ) (first : Option ℕ) → later (if b then Some n else o) first ≡ (if b then Some n else later o first)
+later-some : (o : Option ℕ) (b : Bool) (n : ℕ) (first : Option ℕ) → option_or (if b then Some n else o) first ≡ (if b then Some n else option_or o first)
 later-some o true n first = refl
 later-some o false n first = refl
 
@@ -67,9 +68,9 @@ last_from-push : (n : ℕ) (es : List Entry) (e : Entry) (label : List ℕ) → 
 last_from-push n [] e label = ap (λ m. if bytes_eq label e.label then Some m else None) (omega arith)
 last_from-push n (x ∷ es) e label =
     let first : Option ℕ = if bytes_eq label x.label then Some n else None in
-    ap (λ o. later o first) (last_from-push (n + 1) es e label)
+    ap (λ o. option_or o first) (last_from-push (n + 1) es e label)
     ∙ later-some (last_from (n + 1) es label) (bytes_eq label e.label) (n + 1 + length es) first
-    ∙ ap (λ m. if bytes_eq label e.label then Some m else later (last_from (n + 1) es label) first) (omega arith)
+    ∙ ap (λ m. if bytes_eq label e.label then Some m else option_or (last_from (n + 1) es label) first) (omega arith)
 
 pub place_of_label-push : (es : List Entry) (e : Entry) (label : List ℕ) → place_of_label (es ++ e ∷ []) label ≡ (if bytes_eq label e.label then Some (length es) else place_of_label es label)
 unfolding place_of_label

@@ -1,6 +1,7 @@
 -- The entries of a file, in the order of their lines, or the first line that breaks the grammar.
-use Rattle.std.specs.Prelude.{ℕ, false, List, [], ◌∷◌, ◌++◌, Option, None, Some, Result, Ok, Err, ◌≡◌, if◌then◌else◌}
-use Rattle.dsv_base.specs.Gives.{◌>>=◌, Gives}
+use Rattle.std.specs.Prelude.{ℕ, false, List, [], ◌∷◌, ◌++◌, Option, None, Some, Result, Ok, Err, if◌then◌else◌}
+use Rattle.std.specs.Option.{ok_or}
+use Rattle.dsv_base.specs.Gives.{◌>>=◌}
 use Rattle.dsv_base.specs.TextFiles.{file_lines}
 use Rattle.authz_file.specs.declared.entry.Entry.{Entry}
 use Rattle.authz_file.specs.declared.line.Line.{Line}
@@ -10,21 +11,16 @@ use Rattle.authz_file.specs.declared.rules_fault.RulesFault.{RulesFault}
 use Rattle.authz_file.specs.declared.rules_fault.RulesFault.TheVariants.{BadLine, BadSection, BadAccess}
 use Rattle.authz_file.specs.declared.section.Section.{Section}
 use Rattle.authz_file.specs.declared.section.Section.TheVariants.{Groups, Aliases, At}
-use Rattle.authz_file.specs.Faults.{is_no_memory}
 use Rattle.authz_file.specs.Lines.{joined_lines}
 use Rattle.authz_file.specs.Sections.{section_of, place_name}
 use Rattle.authz_file.specs.Words.{key_value, words_of, is_user, is_negated, principal_of, who_of, own_words, right_of}
 
-abbrev pub or_fault : {X : Type 0} → RulesFault → Option X → Result X RulesFault
-or_fault fault None = Err fault
-or_fault fault (Some x) = Ok x
-
 abbrev pub section_at : ℕ → List ℕ → Result Section RulesFault
-section_at line text = or_fault (BadSection line) (section_of text)
+section_at line text = ok_or (section_of text) (BadSection line)
 
 -- a line of `[groups]` defines `@KEY`
 unfoldable pub group_entry : ℕ → List ℕ → List ℕ → Result Entry RulesFault
-group_entry line key value = or_fault (BadLine line) (words_of value) >>= (λ words.
+group_entry line key value = ok_or (words_of value) (BadLine line) >>= (λ words.
     Ok (record { line = line; label = 64 ∷ key; words = words; grant = None }))
 
 -- a line of `[aliases]` defines `&KEY`
@@ -37,11 +33,11 @@ alias_entry line key value = if is_user value
 -- in sections of one name and have one key
 unfoldable pub grant_entry : Place → ℕ → List ℕ → List ℕ → Result Entry RulesFault
 grant_entry place line key value =
-    or_fault (BadLine line) (who_of (principal_of key)) >>= (λ who.
-    or_fault (BadAccess line) (right_of value) >>= (λ right.
+    ok_or (who_of (principal_of key)) (BadLine line) >>= (λ who.
+    ok_or (right_of value) (BadAccess line) >>= (λ right.
     Ok (record { line = line; label = place_name place.repos place.path ++ 10 ∷ key; words = own_words who (principal_of key); grant = Some (record { place = place; negated = is_negated key; who = who; right = right }) })))
 
--- before any section there is none
+-- a line that stands before the first section gives no entry
 abbrev pub entry_in : Option Section → ℕ → List ℕ → List ℕ → Result Entry RulesFault
 entry_in None line key value = Err (BadLine line)
 entry_in (Some Groups) line key value = group_entry line key value
@@ -49,7 +45,7 @@ entry_in (Some Aliases) line key value = alias_entry line key value
 entry_in (Some (At place)) line key value = grant_entry place line key value
 
 unfoldable pub entry_at : Option Section → ℕ → List ℕ → Result Entry RulesFault
-entry_at section line text = or_fault (BadLine line) (key_value text) >>= (λ p. entry_in section line p.0 p.1)
+entry_at section line text = ok_or (key_value text) (BadLine line) >>= (λ p. entry_in section line p.0 p.1)
 
 -- the entries of the lines that come in this section
 unfoldable pub entries_of : Option Section → List Line → Result (List Entry) RulesFault
@@ -58,18 +54,5 @@ entries_of section (Stray line ∷ rest) = Err (BadLine line)
 entries_of section (Head line text ∷ rest) = section_at line text >>= (λ next. entries_of (Some next) rest)
 entries_of section (Body line text ∷ rest) = entry_at section line text >>= (λ entry. entries_of section rest >>= (λ entries. Ok (entry ∷ entries)))
 
--- the entries of a file
 unfoldable pub file_entries : List ℕ → Result (List Entry) RulesFault
 file_entries bytes = entries_of None (joined_lines false 1 (file_lines bytes))
-
--- entries that come before those that are read
-abbrev pub with_front : List Entry → Result (List Entry) RulesFault → Result (List Entry) RulesFault
-with_front front read = read >>= (λ entries. Ok (front ++ entries))
-
--- one more line is read: the entries and the section are the first, and then the second
-abbrev pub Reads : Option Section × List Entry → Line → Option Section × List Entry → Type 0
-Reads before line after = (rest : List Line) → with_front before.1 (entries_of before.0 (line ∷ rest)) ≡ with_front after.1 (entries_of after.0 rest)
-
--- the line is refused
-abbrev pub Refuses : Option Section → Line → RulesFault → Type 0
-Refuses section line fault = (rest : List Line) → Gives {X = List Entry} is_no_memory (Err fault) (entries_of section (line ∷ rest))

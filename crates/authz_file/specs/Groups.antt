@@ -1,21 +1,17 @@
 -- What labels name, what groups reach, and the users that they hold.
 use Rattle.std.specs.Prelude.{ℕ, zero, suc, ◌+◌, Bool, List, [], ◌∷◌, ◌++◌, map, length, Option, None, Some, nat_eq, if◌then◌else◌, slice_index_or}
 use Rattle.std.specs.List.{list_any, filter, filter_map, flat_map}
+use Rattle.std.specs.Option.{option_or}
 use Rattle.std.specs.Str.{bytes_eq}
 use Rattle.std.specs.Ordering.{match_ordering, nat_cmp}
 use Rattle.std.specs.Cmp.Lexicographic.{slice_cmp}
 use Rattle.authz_file.specs.declared.entry.Entry.{Entry}
 use Rattle.authz_file.specs.Words.{is_user}
 
--- a later place, where there is one
-abbrev pub later : Option ℕ → Option ℕ → Option ℕ
-later None earlier = earlier
-later (Some place) earlier = Some place
-
--- the place of the last entry with this label, where the first entry is at place n
+-- the place of the last entry with this label, where the first entry is at place n: a later one decides
 abbrev pub last_from : ℕ → List Entry → List ℕ → Option ℕ
 last_from n [] label = None
-last_from n (e ∷ es) label = later (last_from (n + 1) es label) (if bytes_eq label e.label then Some n else None)
+last_from n (e ∷ es) label = option_or (last_from (n + 1) es label) (if bytes_eq label e.label then Some n else None)
 
 -- where the entry stands that counts for this label
 unfoldable pub place_of_label : List Entry → List ℕ → Option ℕ

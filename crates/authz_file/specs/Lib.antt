@@ -3,6 +3,7 @@ pub mod Lines
 pub mod Words
 pub mod Sections
 pub mod Entries
+pub mod Reading
 pub mod Groups
 pub mod Searching
 pub mod Resolving

@@ -1,6 +1,7 @@
 -- The rules of a file, or the first refusal with its line.
 use Rattle.std.specs.Prelude.{ℕ, ◌+◌, Bool, false, ◌||◌, List, [], ◌∷◌, Option, None, Some, Result, Ok, Err, is_some, nat_eq, if◌then◌else◌}
 use Rattle.std.specs.List.{cons_option}
+use Rattle.std.specs.Option.{option_or}
 use Rattle.dsv_base.specs.Gives.{◌>>=◌}
 use Rattle.dsv_base.specs.TextFiles.{begins_with}
 use Rattle.authz_file.specs.declared.base.Base.{Base}
@@ -17,10 +18,6 @@ use Rattle.authz_file.specs.Words.{is_user}
 use Rattle.authz_file.specs.Groups.{place_of_label, targets, is_circular, names_at}
 use Rattle.authz_file.specs.Entries.{file_entries}
 
-abbrev pub or_else : {X : Type 0} → Option X → Option X → Option X
-or_else None other = other
-or_else (Some x) other = Some x
-
 abbrev pub unknown : ℕ → List ℕ → RulesFault
 unknown line word = if begins_with 64 word then UnknownGroup line else UnknownAlias line
 
@@ -31,19 +28,19 @@ word_fault entries line word = if is_user word || is_some (place_of_label entrie
 -- the first word counts
 abbrev pub words_fault : List Entry → ℕ → List (List ℕ) → Option RulesFault
 words_fault entries line [] = None
-words_fault entries line (word ∷ words) = or_else (word_fault entries line word) (words_fault entries line words)
+words_fault entries line (word ∷ words) = option_or (word_fault entries line word) (words_fault entries line words)
 
 abbrev pub cycle_fault : List Entry → ℕ → ℕ → Option RulesFault
 cycle_fault entries place line = if is_circular (targets entries) place then Some (GroupCycle line) else None
 
 -- the fault of the entry at this place; every entry is looked at, also one that doesn't count
 unfoldable pub entry_fault : List Entry → ℕ → Entry → Option RulesFault
-entry_fault entries place entry = or_else (words_fault entries entry.line entry.words) (cycle_fault entries place entry.line)
+entry_fault entries place entry = option_or (words_fault entries entry.line entry.words) (cycle_fault entries place entry.line)
 
 -- the first fault of those of the entries that stand at this place and after it
 abbrev pub faults_from : List Entry → ℕ → List Entry → Option RulesFault
 faults_from entries place [] = None
-faults_from entries place (e ∷ es) = or_else (entry_fault entries place e) (faults_from entries (place + 1) es)
+faults_from entries place (e ∷ es) = option_or (entry_fault entries place e) (faults_from entries (place + 1) es)
 
 abbrev pub base_of : Who → List (List ℕ) → Base
 base_of whos.All names = bases.All

@@ -41,17 +41,11 @@ is_word text = is_user text || begins_with 64 text || begins_with 38 text
 abbrev pub is_comma : ℕ → Bool
 is_comma b = b == 44
 
--- what stands between the commas of what is left, if anything is
-abbrev pub items_left : Option (List ℕ) → List (List ℕ)
-items_left None = []
-items_left (Some text) = slice_split is_comma text
-
 -- the items of a list, which may be empty
 abbrev pub list_items : List ℕ → List (List ℕ)
 list_items [] = []
 list_items (b ∷ bs) = map trimmed (slice_split is_comma (b ∷ bs))
 
--- a list of words
 abbrev pub words_if : List (List ℕ) → Option (List (List ℕ))
 words_if items = if list_all is_word items then Some items else None
 

@@ -3,7 +3,8 @@ ghost use Rattle.dsv_base.specs.Gives.{Gives};
 ghost use Rattle.authz_file.specs.Faults.{is_no_memory};
 ghost use Rattle.authz_file.specs.Words.{own_words};
 ghost use Rattle.authz_file.specs.Sections.{place_name};
-ghost use Rattle.authz_file.specs.Entries.{group_entry, alias_entry, grant_entry, entry_in, entry_at, section_at, entries_of, Reads, Refuses};
+ghost use Rattle.authz_file.specs.Entries.{group_entry, alias_entry, grant_entry, entry_in, entry_at, section_at, entries_of};
+ghost use Rattle.authz_file.specs.Reading.{Reads, Refuses};
 
 use crate::entry::Entry;
 use crate::grant::Grant;
@@ -142,7 +143,6 @@ fn grant_entry(
     })
 }
 
-/// A line with this key and this value.
 fn entry_in(
     alloc: Global,
     section: &Option<Section>,
@@ -194,7 +194,6 @@ struct Reading {
 }
 
 impl Reading {
-    /// Reads one more line.
     #[tactic(auto, unfolding(crate::specs::Entries::entries_of))]
     fn read_line(&mut self, alloc: Global, line: &Line) -> Result<(), RulesFault>
         ensures ok { OnOk result (Reads (self.old.section, self.old.entries.items) line.now (self.new.section, self.new.entries.items)) }

@@ -14,7 +14,7 @@ use crate::words::is_user;
 use dsv_base::{Bytes, List, NoMemory};
 use std::alloc::Global;
 
-/// A word that names nothing.
+/// The fault of a word that names nothing.
 fn unknown(line: u32, word: &[u8]) -> RulesFault
     ensures { result ≡ unknown line word.now }
 {

@@ -2,7 +2,8 @@ ghost use Rattle.std.specs.Prelude.{◌≡◌, ◌<◌, ◌≤◌, ◌∷◌, []
 ghost use Rattle.std.specs.List.{slice_split};
 ghost use Rattle.dsv_base.specs.TextFiles.{left_size};
 ghost use Rattle.authz_file.specs.Lines.{trimmed};
-ghost use Rattle.authz_file.specs.Words.{is_comma, items_left, words_if, words_of};
+ghost use Rattle.authz_file.specs.Words.{is_comma, words_if, words_of};
+ghost use Rattle.authz_file.specs.Reading.{items_left};
 
 use crate::text::trimmed;
 use crate::words::is_word;

@@ -13,7 +13,6 @@ use crate::rules_fault::RulesFault;
 use dsv_base::List;
 use std::alloc::Global;
 
-/// The entries of a file.
 #[tactic(auto, unfolding(crate::specs::Entries::file_entries))]
 fn file_entries(alloc: Global, bytes: &[u8]) -> Result<List<Entry>, RulesFault>
     requires { length bytes.now ≤ 268435456 }
@@ -26,9 +25,13 @@ fn file_entries(alloc: Global, bytes: &[u8]) -> Result<List<Entry>, RulesFault>
 
 /// Reads a rules file (Subversion Book, "Path-Based Authorization"), of at most 268,435,456 bytes.
 ///
-/// Groups and aliases are resolved to user names. A refusal names the first line that breaks the
-/// grammar; where none does, the first line with an unknown group or alias, or with a counting
-/// definition of a group that holds itself. [`RulesFault::NoMemory`] can come with any file.
+/// Sections of one name are one section. Of the lines that repeat a key in one section the last counts
+/// alone: it gives the rule, or the definition of the group or alias. Groups and aliases are resolved
+/// to user names.
+///
+/// A refusal names the first line that breaks the grammar; where none does, the first line with an
+/// unknown group or alias, counting or not, or with a counting definition of a group that holds
+/// itself. [`RulesFault::NoMemory`] can come with any file.
 #[tactic(auto, unfolding(crate::specs::Resolving::rules_of))]
 pub fn read_rules(alloc: Global, bytes: &[u8]) -> Result<Rules, RulesFault>
     requires { length bytes.now ≤ 268435456 }

@@ -2,7 +2,8 @@ use crate::base::Base;
 use crate::right::Right;
 use dsv_base::{Bytes, Path};
 
-/// One line of a path section that counts.
+/// A counting line of a path section: of the lines that repeat a key in one section the last counts,
+/// and the others say nothing.
 #[derive(Debug, Drop)]
 pub struct Rule {
     /// The repository of a section `[REPOS:PATH]`; none in a section `[PATH]`.

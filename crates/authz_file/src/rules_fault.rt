@@ -25,7 +25,8 @@ pub enum RulesFault {
     /// The line names an alias that no line defines.
     #[error("line {line}: an unknown alias")]
     UnknownAlias { line: u32 },
-    /// The line defines a group that holds itself, by itself or by way of others.
+    /// The line defines a group that holds itself, by itself or by way of others. It is a counting
+    /// line: the last of those that define the group.
     #[error("line {line}: a group that holds itself")]
     GroupCycle { line: u32 },
     /// Want of memory.

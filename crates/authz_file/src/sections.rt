@@ -100,7 +100,6 @@ fn place_of(alloc: Global, name: &[u8]) -> Result<Option<Place>, NoMemory>
     }
 }
 
-/// The section of this name.
 #[tactic(auto, unfolding(crate::specs::Sections::section_named))]
 fn section_named(alloc: Global, name: &[u8]) -> Result<Option<Section>, NoMemory>
     ensures { IfOk result (λ section. section ≡ section_named name.now) }

@@ -7,7 +7,7 @@ use std::process::Abort;
 use std::test::Fail;
 
 /// Files, and what must be read of them: the rules, each ended by `;`, or the refusal.
-const LINES: [(&str, &str); 17] = [
+const LINES: [(&str, &str); 26] = [
     ("", ""),
     ("\n \t\n# all of this is skipped\n", ""),
     ("[/]\r\n* = r\r\n", "/ * r;"),
@@ -28,9 +28,18 @@ const LINES: [(&str, &str); 17] = [
     ("x = r\n[/]\n", "line 1: not a rule"),
     ("[/]\nx\n", "line 2: not a rule"),
     ("[/]\n= r\n", "line 2: not a rule"),
+    ("x\n[\n", "line 1: not a rule"),
+    ("[\nx\n", "line 1: not a section"),
+    ("\u{feff}[/]\n* = r\n", "line 1: not a rule"),
+    ("[groups]\ng = a \n\tb\n[/]\n@g = r\n", "/ {a  b} r;"),
+    ("[/]\r\n \t\r\n# more\r\nbob =\r\n  rw\r\n", "/ {bob} rw;"),
+    ("[/]\nbob = rw # writes\n", "line 2: not an access value"),
+    ("[groups]\ng = a # b\n[/]\n@g = r\n", "/ {a # b} r;"),
+    ("[/]\nbob =\n # r\n", "line 2: not an access value"),
+    ("[/]\n # none\n", "line 2: not a rule"),
 ];
 
-const SECTIONS: [(&str, &str); 18] = [
+const SECTIONS: [(&str, &str); 21] = [
     ("[/a/]\n* = r\n", "/a * r;"),
     ("[demo:/a/b]\n* = r\n", "demo:/a/b * r;"),
     ("[demo:/]\n* = r\n", "demo:/ * r;"),
@@ -55,9 +64,12 @@ const SECTIONS: [(&str, &str); 18] = [
         "[demo:/a]\nx = r\n[/a]\nx = rw\n",
         "demo:/a {x} r;/a {x} rw;",
     ),
+    ("[demo:/a:/b]\n* = r\n", "demo:/a:/b * r;"),
+    ("[demo:/a/]\n* = r\n", "demo:/a * r;"),
+    ("[demo://]\n", "line 1: not a section"),
 ];
 
-const PRINCIPALS: [(&str, &str); 17] = [
+const PRINCIPALS: [(&str, &str); 20] = [
     ("[/]\nx : r\n", "/ {x} r;"),
     ("[/]\nx y \t=\t rw \n", "/ {x y} rw;"),
     ("[/]\nx = r = w\n", "line 2: not an access value"),
@@ -81,9 +93,12 @@ const PRINCIPALS: [(&str, &str); 17] = [
     ("[/]\n@ = r\n", "line 2: an unknown group"),
     ("[/]\n& = r\n", "line 2: an unknown alias"),
     ("[/]\n@c = r\nx\n", "line 3: not a rule"),
+    ("[groups]\ng = b, a\n[/]\n~@g = r\n", "/ ~{a,b} r;"),
+    ("[/]\nBob = r\nbob =\n", "/ {Bob} r;/ {bob} no;"),
+    ("[/]\n@x = r\n@x = rw\n", "line 2: an unknown group"),
 ];
 
-const GROUPS: [(&str, &str); 19] = [
+const GROUPS: [(&str, &str); 27] = [
     ("[aliases]\na =\n", "line 2: not a rule"),
     ("[aliases]\na = @x\n", "line 2: not a rule"),
     (
@@ -130,6 +145,41 @@ const GROUPS: [(&str, &str); 19] = [
         "[groups]\na = @a\nb = @x\n",
         "line 2: a group that holds itself",
     ),
+    (
+        "[aliases]\nharry = CN=Harold Hacker,OU=Engineers\n[/]\n&harry = rw\n",
+        "/ {CN=Harold Hacker,OU=Engineers} rw;",
+    ),
+    ("[aliases]\nx = a, b\n[/]\n&x = r\n", "/ {a, b} r;"),
+    ("[groups]\ng = a, A, B\n[/]\n@g = r\n", "/ {A,B,a} r;"),
+    (
+        "[groups]\ng = a\nG = b\n[/]\n@g = r\n@G = rw\n",
+        "/ {a} r;/ {b} rw;",
+    ),
+    ("[groups]\ng = a\n[/]\n@G = r\n", "line 4: an unknown group"),
+    ("[groups]\n@g = a\n[/]\n@@g = r\n", "/ {a} r;"),
+    (
+        "[groups]\n@g = a\n[/]\n@g = r\n",
+        "line 4: an unknown group",
+    ),
+    ("[groups]\na = @x\nb = @b\n", "line 2: an unknown group"),
+];
+
+/// Files of a front, a part so many times, and a back; and what must be read of them. A path has at
+/// most 64 components and 1,024 bytes, and a repository's name at most 64.
+const LIMITS: [(&str, &str, usize, &str, &str); 7] = [
+    ("[", "/a", 64, "/]\n", ""),
+    ("[", "/a", 65, "]\n", "line 1: not a section"),
+    ("[", "/fifteen-letters", 64, "/]\n", ""),
+    ("[", "/fifteen-letters", 64, "s]\n", "line 1: not a section"),
+    (
+        "[",
+        "/fifteen-letters",
+        64,
+        "s/]\n",
+        "line 1: not a section",
+    ),
+    ("[", "d", 64, ":/]\n", ""),
+    ("[", "d", 65, ":/]\n", "line 1: not a section"),
 ];
 
 fn put_names(out: &mut Vec<u8>, names: &[Bytes]) -> Result<(), AllocError> {
@@ -166,11 +216,11 @@ fn put_rule(out: &mut Vec<u8>, rule: &Rule) -> Result<(), AllocError> {
 }
 
 /// What is read of the file, in short.
-fn shown(alloc: Global, file: &str) -> Result<Vec<u8>, AllocError>
+fn shown(alloc: Global, file: &[u8]) -> Result<Vec<u8>, AllocError>
     requires { length file.now ≤ 268435456 }
 {
     let mut out = Vec::new(alloc);
-    match read_rules(alloc, file.as_bytes()) {
+    match read_rules(alloc, file) {
         Ok(rules) => {
             for rule in rules.list.get() {
                 put_rule(&mut out, rule)?;
@@ -187,9 +237,36 @@ fn shown(alloc: Global, file: &str) -> Result<Vec<u8>, AllocError>
 fn check_rows<R: Abort + AllocGlobal>(rt: &R, rows: &[(&str, &str)]) -> Result<(), Fail> {
     for (file, wanted) in rows {
         assert!(rt; file.len() < 1000);
-        let shown = shown(rt.alloc(), file)?;
+        let shown = shown(rt.alloc(), file.as_bytes())?;
         let good = shown.as_slice() == wanted.as_bytes();
         assert!(rt; good, "at {file:?}");
+    }
+    Ok(())
+}
+
+/// A file of a front, a part so many times, and a back.
+fn repeated(
+    alloc: Global,
+    front: &str,
+    part: &str,
+    times: usize,
+    back: &str,
+) -> Result<Vec<u8>, AllocError> {
+    let mut file = Vec::from_slice(alloc, front.as_bytes())?;
+    'parts: for _ in 0..times {
+        file.extend_from_slice(part.as_bytes())?;
+    }
+    file.extend_from_slice(back.as_bytes())?;
+    Ok(file)
+}
+
+fn check_limits<R: Abort + AllocGlobal>(rt: &R) -> Result<(), Fail> {
+    'rows: for (front, part, times, back, wanted) in &LIMITS {
+        let file = repeated(rt.alloc(), front, part, *times, back)?;
+        assert!(rt; file.len() < 2000);
+        let shown = shown(rt.alloc(), file.as_slice())?;
+        let good = shown.as_slice() == wanted.as_bytes();
+        assert!(rt; good, "{times} times {part:?}");
     }
     Ok(())
 }
@@ -199,5 +276,6 @@ fn files(rt: HostRuntime) -> Result<(), Fail> {
     check_rows(&rt, &LINES)?;
     check_rows(&rt, &SECTIONS)?;
     check_rows(&rt, &PRINCIPALS)?;
-    check_rows(&rt, &GROUPS)
+    check_rows(&rt, &GROUPS)?;
+    check_limits(&rt)
 }

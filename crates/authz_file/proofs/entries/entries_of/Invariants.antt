@@ -1,5 +1,6 @@
 use Rattle.std.proofs.Common.{◌≡◌, None, drop}
-use Rattle.authz_file.specs.Entries.{entries_of, with_front}
+use Rattle.authz_file.specs.Entries.{entries_of}
+use Rattle.authz_file.specs.Reading.{with_front}
 use Rattle.authz_file.proofs.entries.entries_of.Given as goal
 
 -- the entries so far, and those of the lines that are left

@@ -3,7 +3,8 @@ use Rattle.std.specs.Prelude.{option_copied, map}
 use Rattle.std.specs.List.{slice_split, list_all}
 use Rattle.dsv_base.specs.TextFiles.{left_size}
 use Rattle.authz_file.specs.Lines.{trimmed}
-use Rattle.authz_file.specs.Words.{is_comma, is_word, items_left}
+use Rattle.authz_file.specs.Words.{is_comma, is_word}
+use Rattle.authz_file.specs.Reading.{items_left}
 use Rattle.authz_file.proofs.items.items_of.Given as goal
 
 -- the words so far, and the items that are left

@@ -2,7 +2,7 @@ use Rattle.std.proofs.Common.{◌≡◌, true, get_or, sym, ap, ◌∙◌, below
 use Rattle.std.specs.Option.{option_copied}
 use Rattle.std.proofs.lemmas.Slice.Eq.{bytes_eq-Decides}
 use Rattle.authz_check.specs.Everywhere.{meets, tested}
-use Rattle.authz_check.proofs.Sections.{get_or-any, passes_at, passes-some, section_fails, met_all}
+use Rattle.authz_check.proofs.SectionsBelow.{get_or-any, passes_at, passes-some, section_fails, met_all}
 use Rattle.authz_check.proofs.policy.Policy.sections_meet.Goals as goal
 
 pub places-preserved-then-eq : goal.places-preserved-then-eq

@@ -1,7 +1,7 @@
 use Rattle.std.proofs.Common.{◌≡◌, ℕ, ◌<◌, true, get_or}
 use Rattle.std.specs.Option.{option_copied}
 use Rattle.authz_check.specs.Everywhere.{meets, tested}
-use Rattle.authz_check.proofs.Sections.{passes_at}
+use Rattle.authz_check.proofs.SectionsBelow.{passes_at}
 use Rattle.authz_check.proofs.policy.Policy.sections_meet.Given as goal
 
 -- the right at the path that was asked about last is as asked, and the sections so far pass

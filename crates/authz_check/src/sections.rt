@@ -1,8 +1,9 @@
 //! The right that the rules of one path give.
 
-ghost use Rattle.std.specs.Prelude.{◌≡◌, max, true};
-ghost use Rattle.std.specs.Option.{option_copied};
-ghost use Rattle.authz_check.specs.Access.{right_at, right_in, group, is_in_group, same_repos};
+ghost use Rattle.std.specs.Prelude.{◌≡◌, max, true, None, Some};
+ghost use Rattle.std.specs.Option.{option_copied, option_eq};
+ghost use Rattle.std.specs.Str.{bytes_eq};
+ghost use Rattle.authz_check.specs.Access.{right_at, right_in, section_rules, is_in_section};
 ghost use Rattle.authz_check.specs.Everywhere.{speaks_of};
 ghost use Rattle.authz_check.specs.Order.{HasEach};
 ghost use Rattle.authz_check.specs.Weights.{level, weight, weight_at};
@@ -20,7 +21,8 @@ pub fn right_at(
     user: Option<&[u8]>,
     path: &[u8],
 ) -> Option<Right>
-    requires { HasEach (λ rule. (speaks_of name.now rule ≡ true) × (rule.path ≡ path.now)) rules.now places.now }
+    requires own { HasEach (λ rule. is_in_section (Some name.now) path.now rule ≡ true) rules.now places.now }
+    requires plain { HasEach (λ rule. is_in_section None path.now rule ≡ true) rules.now places.now }
     ensures { result ≡ right_at rules.now name.now (option_copied user.entry) path.now }
 {
     match right_in(rules, places, Some(name), user, path) {
@@ -29,7 +31,7 @@ pub fn right_at(
     }
 }
 
-/// The right that one group gives: the greatest of the rules that speak of the user.
+/// The right that one section gives: the greatest of its rules that speak of the user.
 fn right_in(
     rules: &[Rule],
     places: &[usize],
@@ -37,9 +39,9 @@ fn right_in(
     user: Option<&[u8]>,
     path: &[u8],
 ) -> Option<Right>
-    requires { HasEach (λ rule. is_in_group (option_copied repos) path.now rule ≡ true) rules.now places.now }
+    requires { HasEach (λ rule. is_in_section (option_copied repos) path.now rule ≡ true) rules.now places.now }
     ensures { result ≡ right_in (option_copied user.entry)
-        (group rules.now (option_copied repos.entry) path.now) }
+        (section_rules rules.now (option_copied repos.entry) path.now) }
 {
     let mut best = None;
     'places: for place in places {
@@ -75,7 +77,7 @@ fn with_rule(
 ) -> Option<Right>
     ensures { level result ≡ max (level best) (weight (option_copied user.entry) (option_copied repos.entry) path.now rule.now) }
 {
-    if !is_in_group(rule, repos, path) {
+    if !is_in_section(rule, repos, path) {
         return best;
     }
     if !matches(rule, user) {
@@ -84,9 +86,9 @@ fn with_rule(
     raised(best, rule.right)
 }
 
-/// Whether the rule stands in the section of this repository, or of none, and this path.
-fn is_in_group(rule: &Rule, repos: Option<&[u8]>, path: &[u8]) -> bool
-    ensures { result ≡ is_in_group (option_copied repos.entry) path.now rule.now }
+/// Whether the rule stands in the section of this path that names this repository, or none.
+fn is_in_section(rule: &Rule, repos: Option<&[u8]>, path: &[u8]) -> bool
+    ensures { result ≡ is_in_section (option_copied repos.entry) path.now rule.now }
 {
     if !same_repos(&rule.repos, repos) {
         return false;
@@ -105,7 +107,7 @@ pub fn speaks_of(name: &[u8], rule: &Rule) -> bool
 }
 
 fn same_repos(left: &Option<Bytes>, right: Option<&[u8]>) -> bool
-    ensures { result ≡ same_repos left.now (option_copied right.entry) }
+    ensures { result ≡ option_eq bytes_eq left.now (option_copied right.entry) }
 {
     match (left, right) {
         (None, None) => true,

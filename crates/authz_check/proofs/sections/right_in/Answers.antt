@@ -1,9 +1,9 @@
 use Rattle.std.proofs.Common.{◌≤◌, ap, below_more, get_or, arith}
 use Rattle.std.specs.Option.{option_copied}
 use Rattle.authz_check.specs.Weights.{level, weight_at}
-use Rattle.authz_check.proofs.Sections.{get_or-any}
+use Rattle.authz_check.proofs.SectionsBelow.{get_or-any}
 use Rattle.authz_check.proofs.Weighed.{weight_at-top, found_all}
-use Rattle.authz_check.proofs.groups.right_in.Goals as goal
+use Rattle.authz_check.proofs.sections.right_in.Goals as goal
 
 pub places-preserved : goal.places-preserved
 places-preserved c =

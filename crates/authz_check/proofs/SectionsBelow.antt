@@ -8,7 +8,7 @@ use Rattle.std.proofs.lemmas.Slice.Eq.{bytes_eq-Decides}
 use Rattle.dsv_base.specs.Paths.{is_under}
 use Rattle.authz_file.specs.declared.rule.Rule.{Rule}
 use Rattle.authz_check.specs.Everywhere.{speaks_of, section_paths}
-use Rattle.authz_check.specs.Order.{HasEach, as_section, section_at, where_true}
+use Rattle.authz_check.specs.Order.{HasEach, as_section, section_rule_at, where_true}
 use Rattle.authz_check.proofs.Ordered.{get_or-slice_get, within-slice_get}
 
 -- the path of this rule's section passes a test, if it is one of those
@@ -100,7 +100,7 @@ module _ (P : List ℕ → Bool) (name top : List ℕ) where
       either true k = absurd (cc k)
       either false k = refl
 
-  pub passes-none : (rules : List Rule) (place : ℕ) → section_at rules name top place ≡ None → passes_at rules place ≡ true
+  pub passes-none : (rules : List Rule) (place : ℕ) → section_rule_at rules name top place ≡ None → passes_at rules place ≡ true
   passes-none rules place h = none_as (slice_get rules place) h
 
   pub record IsSection (o : Option Rule) (rule : Rule) : Type 0 where
@@ -115,18 +115,18 @@ module _ (P : List ℕ → Bool) (name top : List ℕ) where
       either true e k = let same : other ≡ rule = cc in record { is = k; under = ap (λ r. speaks_of name r && is_under r.path top) (sym same) ∙ e }
       either false e k = absurd (cc k)
 
-  pub section : (rules : List Rule) (place : ℕ) (rule : Rule) → section_at rules name top place ≡ Some rule → IsSection (slice_get rules place) rule
+  pub section : (rules : List Rule) (place : ℕ) (rule : Rule) → section_rule_at rules name top place ≡ Some rule → IsSection (slice_get rules place) rule
   section rules place rule h = some_as (slice_get rules place) rule h
 
   passes_is : (rule : Rule) (b : Bool) → (speaks_of name rule && is_under rule.path top) ≡ true → P rule.path ≡ b → passes P name top rule ≡ b
   passes_is rule b under test = ap (λ c. if c then P rule.path else true) under ∙ test
 
-  pub passes-some : (rules : List Rule) (place : ℕ) (rule : Rule) → section_at rules name top place ≡ Some rule → P rule.path ≡ true → passes_at rules place ≡ true
+  pub passes-some : (rules : List Rule) (place : ℕ) (rule : Rule) → section_rule_at rules name top place ≡ Some rule → P rule.path ≡ true → passes_at rules place ≡ true
   passes-some rules place rule h test =
       let found = section rules place rule h in
       ap (λ o. option_map_or (passes P name top) o true) found.is ∙ passes_is rule true found.under test
 
-  pub section_fails : (rules : List Rule) (place : ℕ) (rule : Rule) → section_at rules name top place ≡ Some rule → P rule.path ≡ false → list_all P (section_paths rules name top) ≡ false
+  pub section_fails : (rules : List Rule) (place : ℕ) (rule : Rule) → section_rule_at rules name top place ≡ Some rule → P rule.path ≡ false → list_all P (section_paths rules name top) ≡ false
   section_fails rules place rule h test =
       let found = section rules place rule h in
       all_pass-rules P name top rules

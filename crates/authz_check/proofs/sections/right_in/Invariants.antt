@@ -1,7 +1,7 @@
 use Rattle.std.proofs.Common.{ℕ, ◌<◌, ◌≤◌, get_or}
 use Rattle.std.specs.Option.{option_copied}
 use Rattle.authz_check.specs.Weights.{level, weight, weight_at, top}
-use Rattle.authz_check.proofs.groups.right_in.Given as goal
+use Rattle.authz_check.proofs.sections.right_in.Given as goal
 
 -- no place so far gives more than was found, and some rule gives that
 abbrev pub invariant-places : goal.invariant-places

@@ -1,0 +1,28 @@
+-- What the program's own calls say while they read: of the items, the lines and the entries that are left.
+use Rattle.std.specs.Prelude.{ℕ, ◌≡◌, List, [], ◌∷◌, ◌++◌, Option, None, Some, Result, Ok, Err}
+use Rattle.std.specs.List.{slice_split}
+use Rattle.dsv_base.specs.Gives.{◌>>=◌, Gives}
+use Rattle.authz_file.specs.declared.entry.Entry.{Entry}
+use Rattle.authz_file.specs.declared.line.Line.{Line}
+use Rattle.authz_file.specs.declared.rules_fault.RulesFault.{RulesFault}
+use Rattle.authz_file.specs.declared.section.Section.{Section}
+use Rattle.authz_file.specs.Faults.{is_no_memory}
+use Rattle.authz_file.specs.Words.{is_comma}
+use Rattle.authz_file.specs.Entries.{entries_of}
+
+-- what stands between the commas of what is left, if anything is
+abbrev pub items_left : Option (List ℕ) → List (List ℕ)
+items_left None = []
+items_left (Some text) = slice_split is_comma text
+
+-- entries that come before those that are read
+abbrev pub with_front : List Entry → Result (List Entry) RulesFault → Result (List Entry) RulesFault
+with_front front read = read >>= (λ entries. Ok (front ++ entries))
+
+-- one more line is read: the section and the entries are the first, and then the second
+abbrev pub Reads : Option Section × List Entry → Line → Option Section × List Entry → Type 0
+Reads before line after = (rest : List Line) → with_front before.1 (entries_of before.0 (line ∷ rest)) ≡ with_front after.1 (entries_of after.0 rest)
+
+-- this line gives the fault, whatever stands after it
+abbrev pub Refuses : Option Section → Line → RulesFault → Type 0
+Refuses section line fault = (rest : List Line) → Gives {X = List Entry} is_no_memory (Err fault) (entries_of section (line ∷ rest))
