@@ -13,7 +13,6 @@ use Rattle.davsvn.specs.declared.unread.Unread.{Unread}
 use Rattle.davsvn.specs.declared.unread.Unread.TheVariants as unread
 use Rattle.davsvn.specs.Commands.{Command, Pipe, AccessOf, FileNames}
 use Rattle.davsvn.specs.Opening.{Contents, IsScript, AreRules, AreNoRules, AreUsers, AreNoUsers, ReadsFile, is_failed_read, end_of}
-use Rattle.davsvn.specs.Replies.{reply_text}
 use Rattle.davsvn.specs.Runs.{Opens, ServeSays, PipeSays, WorkSays}
 use Rattle.davsvn.specs.Statuses.{number_of}
 
