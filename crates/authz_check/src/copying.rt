@@ -3,7 +3,7 @@
 ghost use Rattle.std.specs.Prelude.{◌≡◌, IfOk};
 
 use authz_file::{Base, Rule};
-use dsv_base::{Bytes, List, NoMemory, Path};
+use dsv_base::{Bytes, List, NoMemory};
 use std::alloc::Global;
 
 pub fn copy_rules(alloc: Global, rules: &[Rule]) -> Result<List<Rule>, NoMemory>
@@ -20,7 +20,7 @@ fn copy_rule(alloc: Global, rule: &Rule) -> Result<Rule, NoMemory>
     ensures { IfOk result (λ copy. copy ≡ rule.now) }
 {
     let repos = copy_repos(&rule.repos)?;
-    let path = copy_path(alloc, &rule.path)?;
+    let path = rule.path.copy()?;
     let base = copy_base(alloc, &rule.base)?;
     Ok(Rule {
         repos,
@@ -37,15 +37,6 @@ fn copy_repos(repos: &Option<Bytes>) -> Result<Option<Bytes>, NoMemory>
     match repos {
         None => Ok(None),
         Some(name) => Ok(Some(name.copy()?)),
-    }
-}
-
-fn copy_path(alloc: Global, path: &Path) -> Result<Path, NoMemory>
-    ensures { IfOk result (λ copy. copy ≡ path.now) }
-{
-    match Path::parse(alloc, path.text()) {
-        Ok(path) => Ok(path),
-        Err(_) => Err(NoMemory),
     }
 }
 

@@ -127,7 +127,7 @@ fn grant_entry(
     };
     let label = grant_label(alloc, place, key)?;
     let words = own_words(alloc, who, principal)?;
-    let place = copy_place(alloc, place)?;
+    let place = copy_place(place)?;
     let negated = is_negated(key);
     let grant = Some(Grant {
         place,

@@ -14,7 +14,7 @@ use crate::names::names_at;
 use crate::rule::Rule;
 use crate::rules::Rules;
 use crate::rules_fault::RulesFault;
-use crate::sections::{copy_path, copy_repos};
+use crate::sections::copy_repos;
 use crate::who::Who;
 use dsv_base::{List, NoMemory};
 use std::alloc::Global;
@@ -55,7 +55,7 @@ fn granted(
     ensures { IfOk result (λ rule. rule ≡ granted book.now place grant.now) }
 {
     let repos = copy_repos(&grant.place.repos)?;
-    let path = copy_path(alloc, &grant.place.path)?;
+    let path = grant.place.path.copy()?;
     let base = base_of(alloc, book, graph, place, grant.who)?;
     Ok(Rule {
         repos,

@@ -126,16 +126,6 @@ pub fn section_of(alloc: Global, text: &[u8]) -> Result<Option<Section>, NoMemor
     }
 }
 
-/// A copy of a path. Its one error is want of memory.
-pub fn copy_path(alloc: Global, path: &Path) -> Result<Path, NoMemory>
-    ensures { IfOk result (λ copy. copy ≡ path.now) }
-{
-    match Path::parse(alloc, path.text()) {
-        Ok(path) => Ok(path),
-        Err(_) => Err(NoMemory),
-    }
-}
-
 /// A copy of a repository's name, if there is one. Its one error is want of memory.
 pub fn copy_repos(repos: &Option<Bytes>) -> Result<Option<Bytes>, NoMemory>
     ensures { IfOk result (λ copy. copy ≡ repos.now) }
@@ -147,10 +137,10 @@ pub fn copy_repos(repos: &Option<Bytes>) -> Result<Option<Bytes>, NoMemory>
 }
 
 /// A copy. Its one error is want of memory.
-pub fn copy_place(alloc: Global, place: &Place) -> Result<Place, NoMemory>
+pub fn copy_place(place: &Place) -> Result<Place, NoMemory>
     ensures { IfOk result (λ copy. copy ≡ place.now) }
 {
     let repos = copy_repos(&place.repos)?;
-    let path = copy_path(alloc, &place.path)?;
+    let path = place.path.copy()?;
     Ok(Place { repos, path })
 }

@@ -13,7 +13,6 @@ use Rattle.davsvn.specs.declared.unread.Unread.{Unread}
 use Rattle.davsvn.specs.declared.unread.Unread.TheVariants as unread
 use Rattle.davsvn.specs.Commands.{Command, Pipe, AccessOf, FileNames}
 use Rattle.davsvn.specs.Opening.{Contents, IsScript, AreRules, AreNoRules, AreUsers, AreNoUsers, ReadsFile, is_failed_read, end_of}
-use Rattle.davsvn.specs.Replies.{reply_text}
 use Rattle.davsvn.specs.Runs.{Opens, ServeSays, PipeSays, WorkSays}
 use Rattle.davsvn.specs.Statuses.{number_of}
 
@@ -42,11 +41,11 @@ ended says name unread.NoMemory end (inl e) free cause = subst says (sym e) free
 
 module _ (contents : Contents) (names : FileNames) (left old new : Option (List ℕ)) (over : Bool) (source_rose sink_rose files_rose : Type 0) where
   pub served : (repository : Repository) (rules : Rules) (users : List User) (end : End) → Opens contents names repository rules users → ServeSays repository rules.list users left old new over source_rose sink_rose end → PipeSays contents names left old new over source_rose sink_rose files_rose end
-  served repository rules users Well opens s = (reply_text s.2 _ _, record { repository = repository; rules = rules; users = users; input = s.0; asked = s.1; reply = s.2; opens = opens; is_input = s.3; message = s.4; answer = s.5; written = refl }, s.6, s.7)
+  served repository rules users Well opens s = (s.0, record { repository = repository; rules = rules; users = users; opens = opens; replied = s.1 }, s.2, s.3)
   served repository rules users Usage opens s = absurd s
   served repository rules users (BadFile name line) opens s = absurd s
   served repository rules users ReadFault opens s = (s.0, s.1, (repository, rules, users, opens))
-  served repository rules users WriteFault opens s = (reply_text s.2 _ _, record { repository = repository; rules = rules; users = users; input = s.0; asked = s.1; reply = s.2; opens = opens; is_input = s.3; message = s.4; answer = s.5; written = refl }, s.6, s.7, s.8)
+  served repository rules users WriteFault opens s = (s.0, record { repository = repository; rules = rules; users = users; opens = opens; replied = s.1 }, s.2, s.3, s.4)
   served repository rules users (FileFault name) opens s = absurd s
   served repository rules users NoMemory opens s = s
   served repository rules users OtherRight opens s = absurd s

@@ -22,7 +22,8 @@ Given = List (List ℕ × List ℕ)
 abbrev pub with_option : List ℕ → List ℕ → Given × List (List ℕ) → Given × List (List ℕ)
 with_option name value read = ((name, value) ∷ read.0, read.1)
 
--- the options at the front of the words, and the words after them; the value of one that takes none is empty
+-- the options at the front of the words, and the words after them; the value of one that takes none is
+-- empty. A name that is no option's, or whose value is missing, is a word after them
 unfoldable pub read_options : Verb → List (List ℕ) → Given × List (List ℕ)
 read_options verb [] = ([], [])
 read_options verb (word ∷ []) = if stands_alone verb word then ((word, []) ∷ [], []) else ([], word ∷ [])

@@ -1,5 +1,5 @@
 -- What a run does, by what it is given.
-use Rattle.std.specs.Prelude.{ℕ, ◌≡◌, ◌≤◌, ◌⊎◌, Bool, true, false, List, take, length, Option, None, Some, ⊤}
+use Rattle.std.specs.Prelude.{ℕ, ◌≡◌, ◌≤◌, ◌⊎◌, Bool, true, false, List, take, length, Option, None, Some}
 use Rattle.std.specs.Io.KnownBytes.{Appends, Keeps}
 use Rattle.authz_file.specs.declared.right.Right.{Right}
 use Rattle.authz_file.specs.declared.rule.Rule.{Rule}
@@ -37,18 +37,22 @@ abbrev pub AreOpen : Contents → FileNames → Type 0
 AreOpen contents names = (repository : Repository) × (rules : Rules) × (users : List User) × Opens contents names repository rules users
 
 -- the output is the bytes of the reply to the one request of the input
+pub record Replied (repository : Repository) (rules : List Rule) (users : List User) (left : Option (List ℕ)) (output : List ℕ) : Type 0 where
+  pub input : List ℕ
+  pub asked : request.Request
+  pub reply : Reply
+  pub is_input : IsInput left input
+  pub message : IsFirstMessage users input asked
+  pub answer : reply_to repository rules asked ≡ Some reply
+  pub written : output ≡ reply_text reply false false
+
+-- .. over what the three files give
 pub record Answered (contents : Contents) (names : FileNames) (left : Option (List ℕ)) (output : List ℕ) : Type 0 where
   pub repository : Repository
   pub rules : Rules
   pub users : List User
-  pub input : List ℕ
-  pub asked : request.Request
-  pub reply : Reply
   pub opens : Opens contents names repository rules users
-  pub is_input : IsInput left input
-  pub message : IsFirstMessage users input asked
-  pub answer : reply_to repository rules.list asked ≡ Some reply
-  pub written : output ≡ reply_text reply false false
+  pub replied : Replied repository rules.list users left output
 
 -- the input is no message in the first form, or it asks for what isn't answered as yet
 abbrev pub IsUnanswered : Repository → List Rule → List User → List ℕ → Type 0
@@ -87,10 +91,10 @@ SendSays old new output sink_rose _ = ⊥
 -- what serving the one request says of its end: the sink's bytes before and after, whether the input
 -- ended, and whether the counts of source and sink rose
 abbrev pub ServeSays : Repository → List Rule → List User → Option (List ℕ) → Option (List ℕ) → Option (List ℕ) → Bool → Type 0 → Type 0 → End → Type 0
-ServeSays repository rules users left old new over source_rose sink_rose end.Well = (input : List ℕ) × (r : request.Request) × (reply : Reply) × IsInput left input × IsFirstMessage users input r × (reply_to repository rules r ≡ Some reply) × Appends old new (reply_text reply false false) × (over ≡ true)
+ServeSays repository rules users left old new over source_rose sink_rose end.Well = (output : List ℕ) × Replied repository rules users left output × Appends old new output × (over ≡ true)
 ServeSays repository rules users left old new over source_rose sink_rose end.NotFirst = (input : List ℕ) × IsInput left input × IsUnanswered repository rules users input × Keeps old new
 ServeSays repository rules users left old new over source_rose sink_rose end.ReadFault = source_rose × Keeps old new
-ServeSays repository rules users left old new over source_rose sink_rose end.WriteFault = (input : List ℕ) × (r : request.Request) × (reply : Reply) × IsInput left input × IsFirstMessage users input r × (reply_to repository rules r ≡ Some reply) × TookFront old new (reply_text reply false false) × sink_rose × (over ≡ true)
+ServeSays repository rules users left old new over source_rose sink_rose end.WriteFault = (output : List ℕ) × Replied repository rules users left output × TookFront old new output × sink_rose × (over ≡ true)
 ServeSays repository rules users left old new over source_rose sink_rose end.NoMemory = Keeps old new
 ServeSays repository rules users left old new over source_rose sink_rose _ = ⊥
 
@@ -107,12 +111,6 @@ PipeSays contents names left old new over source_rose sink_rose files_rose _ = �
 
 -- ---- `accessof`
 
--- the output is the right that is asked for, and whether it is the expected one is as told
-abbrev pub Told : Contents → Question → List ℕ → (Bool → Type 0) → List ℕ → Type 0
-Told contents question path is output =
-    (rules : Rules) × AreRules contents question.rules rules × (output ≡ right_line (right_asked rules.list question path))
-    × is (is_expected question.expected (right_asked rules.list question path))
-
 -- what putting a right says of its end
 abbrev pub TellSays : Option Right → Right → Option (List ℕ) → Option (List ℕ) → Type 0 → End → Type 0
 TellSays expected right old new sink_rose end.Well = (is_expected expected right ≡ true) × Appends old new (right_line right)
@@ -121,11 +119,18 @@ TellSays expected right old new sink_rose end.WriteFault = TookFront old new (ri
 TellSays expected right old new sink_rose end.NoMemory = Keeps old new
 TellSays expected right old new sink_rose _ = ⊥
 
+-- the sink took the right that is asked for, and whether it is the expected one is as told
+abbrev pub Told : Contents → Question → List ℕ → Option (List ℕ) → Option (List ℕ) → Bool → Type 0
+Told contents question path old new expected =
+    (rules : Rules) × AreRules contents question.rules rules
+    × (is_expected question.expected (right_asked rules.list question path) ≡ expected)
+    × Appends old new (right_line (right_asked rules.list question path))
+
 -- what a run of `accessof` says of its end
 abbrev pub AskSays : Contents → Question → List ℕ → Option (List ℕ) → Option (List ℕ) → Type 0 → Type 0 → End → Type 0
-AskSays contents question path old new sink_rose files_rose end.Well = (output : List ℕ) × Told contents question path (λ b. b ≡ true) output × Appends old new output
-AskSays contents question path old new sink_rose files_rose end.OtherRight = (output : List ℕ) × Told contents question path (λ b. b ≡ false) output × Appends old new output
-AskSays contents question path old new sink_rose files_rose end.WriteFault = (output : List ℕ) × Told contents question path (λ b. ⊤) output × TookFront old new output × sink_rose
+AskSays contents question path old new sink_rose files_rose end.Well = Told contents question path old new true
+AskSays contents question path old new sink_rose files_rose end.OtherRight = Told contents question path old new false
+AskSays contents question path old new sink_rose files_rose end.WriteFault = (rules : Rules) × AreRules contents question.rules rules × TookFront old new (right_line (right_asked rules.list question path)) × sink_rose
 AskSays contents question path old new sink_rose files_rose (end.BadFile name line) = (name ≡ question.rules) × AreNoRules contents question.rules line × Keeps old new
 AskSays contents question path old new sink_rose files_rose (end.FileFault name) = (name ≡ question.rules) × files_rose × Keeps old new
 AskSays contents question path old new sink_rose files_rose end.NoMemory = Keeps old new

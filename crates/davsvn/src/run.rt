@@ -1,4 +1,4 @@
-ghost use Rattle.std.specs.Prelude.{◌≡◌, ◌↔◌, ◌⊎◌, None};
+ghost use Rattle.std.specs.Prelude.{◌≡◌, ◌↔◌, ◌⊎◌, None, []};
 ghost use Rattle.dsv_outside.specs.Causes.{Rose};
 ghost use Rattle.davsvn.specs.declared.end.End.{End};
 ghost use Rattle.davsvn.specs.Commands.{command};
@@ -34,9 +34,9 @@ pub fn run<S: Source, K: Sink, E: Sink, F: Files>(
     words: &[Bytes],
     world: World<S, K, E, F>,
 ) -> (Status, World<S, K, E, F>)
-    // the run has an end, whose number is the status, whose line the errors took, and which came about
-    // as the command's own table of ends says
-    ensures says { (end : End) × (result.0.0 ≡ number_of end) × TookLine (E.taken world.errors) (E.taken result.1.errors) (line_of end) (Rose (E.faults world.errors) (E.faults result.1.errors)) × WorkSays (command words.now) (F.contents world.files) (S.left world.source) (K.taken world.sink) (K.taken result.1.sink) (S.over result.1.source) (Rose (S.faults world.source) (S.faults result.1.source)) (Rose (K.faults world.sink) (K.faults result.1.sink)) (Rose (F.faults world.files) (F.faults result.1.files)) end }
+    // the run has an end, whose number is the status, whose line the errors took (without a line they
+    // aren't touched), and which came about as the command's own table of ends says
+    ensures says { (end : End) × (result.0.0 ≡ number_of end) × TookLine (E.taken world.errors) (E.taken result.1.errors) (line_of end) (Rose (E.faults world.errors) (E.faults result.1.errors)) × (line_of end ≡ [] → result.1.errors ≡ world.errors) × WorkSays (command words.now) (F.contents world.files) (S.left world.source) (K.taken world.sink) (K.taken result.1.sink) (S.over result.1.source) (Rose (S.faults world.source) (S.faults result.1.source)) (Rose (K.faults world.sink) (K.faults result.1.sink)) (Rose (F.faults world.files) (F.faults result.1.files)) end }
     // 1: exactly where the words are none of the program's
     ensures usage { (result.0.0 ≡ 1) ↔ (command words.now ≡ None) }
     // .. and then nothing but the errors is touched

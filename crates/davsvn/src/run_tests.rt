@@ -38,17 +38,18 @@ const USERS: &[u8] = b"alice:apw\nbob:bpw\n";
 
 const PIPE: &[u8] = b"pipe --script script --rules rules --users users";
 
-/// A run: the words, each followed by one blank or the end, the request, the files, the calls of source and sink that fail, and what
-/// must come of it.
+/// A run: the words with one blank between, the request, the files, the calls of source, sink and
+/// errors that fail, and what must come of it.
 #[derive(Clone, Copy)]
 struct Row {
     words: &'static [u8],
     request: &'static [u8],
-    script: &'static [u8],
+    script: Option<&'static [u8]>,
     rules: Option<&'static [u8]>,
     users: Option<&'static [u8]>,
     source_fails: &'static [u64],
     sink_fails: &'static [u64],
+    errors_fail: &'static [u64],
     status: u8,
     output: &'static [u8],
     line: &'static [u8],
@@ -58,11 +59,12 @@ struct Row {
 const TEXT: Row = Row {
     words: PIPE,
     request: b"GET /svn/demo/!svn/rvr/1/pub/a HTTP/1.1\r\n\r\n",
-    script: SCRIPT,
+    script: Some(SCRIPT),
     rules: Some(RULES),
     users: Some(USERS),
     source_fails: &[],
     sink_fails: &[],
+    errors_fail: &[],
     status: 0,
     output: b"HTTP/1.1 200 OK\r\nContent-Type: text/plain\r\nContent-Length: 3\r\n\r\nabc",
     line: b"",
@@ -114,7 +116,7 @@ const USAGE: Row = Row {
 };
 
 /// Requests and the bytes that they are answered with.
-const GETS: [(&[u8], &[u8]); 8] = [
+const GETS: [(&[u8], &[u8]); 11] = [
     (
         b"GET /svn/demo/!svn/rvr/1/sec/k HTTP/1.1\r\n\r\n",
         UNAUTHORIZED,
@@ -144,6 +146,19 @@ const GETS: [(&[u8], &[u8]); 8] = [
         UNAUTHORIZED,
     ),
     (
+        b"GET /svn/demo/!svn/rvr/1/sec/k HTTP/1.1\r\nAuthorization: Basic YWxpY2U6YnB3\r\n\r\n",
+        UNAUTHORIZED,
+    ),
+    // a hidden directory
+    (
+        b"GET /svn/demo/!svn/rvr/1/sec HTTP/1.1\r\n\r\n",
+        UNAUTHORIZED,
+    ),
+    (
+        b"GET /svn/demo/!svn/rvr/1/sec HTTP/1.1\r\nAuthorization: Basic Ym9iOmJwdw==\r\n\r\n",
+        FORBIDDEN,
+    ),
+    (
         b"GET /svn/demo/!svn/rvr/1/pub/zzz HTTP/1.1\r\n\r\n",
         NOT_FOUND,
     ),
@@ -154,16 +169,28 @@ const GETS: [(&[u8], &[u8]); 8] = [
     ),
 ];
 
-const PIPE_ROWS: [Row; 13] = [
+const PIPE_ROWS: [Row; 16] = [
     TEXT,
     // the options in another order
     Row {
         words: b"pipe --users users --script script --rules rules",
         ..TEXT
     },
-    // a directory
+    // a directory, which everyone may read
     Row {
         request: b"GET /svn/demo/!svn/rvr/1/pub HTTP/1.1\r\n\r\n",
+        ..NOT_FIRST
+    },
+    // .. which alice may read
+    Row {
+        request: b"GET /svn/demo/!svn/rvr/1/sec HTTP/1.1\r\nAuthorization: Basic YWxpY2U6YXB3\r\n\r\n",
+        ..NOT_FIRST
+    },
+    // no line, and the same status
+    Row {
+        errors_fail: &[0],
+        line: b"",
+        request: b"",
         ..NOT_FIRST
     },
     Row {
@@ -171,12 +198,12 @@ const PIPE_ROWS: [Row; 13] = [
         ..NOT_FIRST
     },
     Row {
-        script: b"davsvn-script 2\n",
+        script: Some(b"davsvn-script 2\n"),
         ..NOT_FIRST
     },
     // the script is checked before the rules are read
     Row {
-        script: b"davsvn-script 2\n",
+        script: Some(b"davsvn-script 2\n"),
         rules: None,
         ..NOT_FIRST
     },
@@ -219,6 +246,13 @@ const PIPE_ROWS: [Row; 13] = [
         ..TEXT
     },
     Row {
+        script: None,
+        status: 6,
+        output: b"",
+        line: b"davsvn: file fault: script\n",
+        ..TEXT
+    },
+    Row {
         rules: None,
         status: 6,
         output: b"",
@@ -235,25 +269,36 @@ const PIPE_ROWS: [Row; 13] = [
 ];
 
 /// Words of no command.
-const NO_COMMANDS: [&[u8]; 12] = [
+const NO_COMMANDS: [&[u8]; 22] = [
     b"",
+    b"--help",
+    b"--version",
     b"pipe",
+    b"pipe --script script --rules rules",
     // a file's name isn't empty
     b"pipe --script script --rules  --users users",
     // an option is given twice
     b"pipe --script script --rules rules --users users --users users",
     // another word after the options
     b"pipe --script script --rules rules --users users more",
-    // no path
+    // an option of the other command
+    b"pipe --script script --rules rules --users users --is r",
+    b"accessof --users users --rules rules --repos demo /a",
+    // a value is missing
+    b"accessof --rules rules --repos demo --user",
+    // no path, and two
     b"accessof --rules rules --repos demo",
-    // a path doesn't end with a slash
+    b"accessof --rules rules --repos demo /a /b",
+    // a path doesn't end with a slash, and no part of it is `!svn`
     b"accessof --rules rules --repos demo /a/",
+    b"accessof --rules rules --repos demo /!svn",
     // an option after the path
     b"accessof --rules rules --repos demo /a --recursive",
+    b"accessof --recursive --rules rules --repos demo --recursive /a",
     b"accessof --is w --rules rules --repos demo /a",
     b"accessof --repos .. --rules rules /a",
-    // an option of the other command
-    b"accessof --users users --rules rules --repos demo /a",
+    b"accessof --user a:b --rules rules --repos demo /a",
+    b"accessof --repos demo /a",
     b"access --rules rules --repos demo /a",
 ];
 
@@ -264,7 +309,7 @@ const ASK: Row = Row {
     ..TEXT
 };
 
-const ASK_ROWS: [Row; 10] = [
+const ASK_ROWS: [Row; 15] = [
     ASK,
     Row {
         words: b"accessof --user bob --repos demo --rules rules /sec",
@@ -312,8 +357,43 @@ const ASK_ROWS: [Row; 10] = [
         line: b"davsvn: file fault: rules\n",
         ..ASK
     },
+    // more than was expected is another right
+    Row {
+        words: b"accessof --rules rules --repos demo --is r --user alice /sec",
+        status: 9,
+        output: b"rw\n",
+        ..ASK
+    },
+    Row {
+        words: b"accessof --rules rules --repos demo --is rw --recursive --user alice /sec",
+        status: 9,
+        output: b"r\n",
+        rules: Some(b"[/]\nalice = rw\n[/sec/k]\nalice = r\n"),
+        ..ASK
+    },
+    // a put that fails comes before the comparison
+    Row {
+        words: b"accessof --rules rules --repos demo --is rw --user bob /sec",
+        sink_fails: &[0],
+        status: 5,
+        output: b"",
+        line: b"davsvn: write fault\n",
+        ..ASK
+    },
+    // a section of another repository
+    Row {
+        words: b"accessof --rules rules --repos other --user bob /sec",
+        rules: Some(b"[/]\n* = r\n[demo:/sec]\n* =\n"),
+        ..ASK
+    },
+    // the value of an option is the next word, whatever it is
+    Row {
+        words: b"accessof --rules rules --repos demo --user --recursive /pub",
+        ..ASK
+    },
     // a name that no line defines
     Row {
+        words: b"accessof --rules rules --repos demo --is no /a",
         rules: Some(b"[/]\n@c = r\n"),
         status: 2,
         output: b"",
@@ -330,7 +410,9 @@ fn bytes_of<R: AllocGlobal>(rt: &R, text: &[u8]) -> Result<Bytes, Fail> {
 
 fn files_of<R: AllocGlobal>(rt: &R, row: &Row) -> Result<MemFiles, Fail> {
     let mut files = Vec::new(rt.alloc());
-    files.push((bytes_of(rt, b"script")?, bytes_of(rt, row.script)?))?;
+    if let Some(script) = row.script {
+        files.push((bytes_of(rt, b"script")?, bytes_of(rt, script)?))?;
+    }
     if let Some(rules) = row.rules {
         files.push((bytes_of(rt, b"rules")?, bytes_of(rt, rules)?))?;
     }
@@ -345,7 +427,7 @@ fn world_of<R: AllocGlobal>(rt: &R, row: &Row) -> Result<MemWorld, Fail> {
     Ok(World {
         source: MemSource::new(bytes_of(rt, row.request)?, row.source_fails.to_vec(alloc)?),
         sink: MemSink::new(bytes_of(rt, b"")?, row.sink_fails.to_vec(alloc)?),
-        errors: MemSink::new(bytes_of(rt, b"")?, Vec::new(alloc)),
+        errors: MemSink::new(bytes_of(rt, b"")?, row.errors_fail.to_vec(alloc)?),
         files: files_of(rt, row)?,
     })
 }

@@ -1,4 +1,4 @@
-ghost use Rattle.std.specs.Prelude.{◌≡◌, IfOk};
+ghost use Rattle.std.specs.Prelude.{◌≡◌, IfOk, []};
 ghost use Rattle.dsv_outside.specs.Causes.{Rose};
 ghost use Rattle.davsvn.specs.Statuses.{number_of, line_of, TookLine};
 
@@ -30,7 +30,8 @@ pub fn status_of(end: &End) -> Status
 
 /// Puts the line of an end, in one call, unless memory runs out.
 pub fn put_line<E: Sink>(alloc: Global, end: &End, errors: &mut E)
-    ensures { TookLine (E.taken errors.old) (E.taken errors.new) (line_of end.now) (Rose (E.faults errors.old) (E.faults errors.new)) }
+    ensures line { TookLine (E.taken errors.old) (E.taken errors.new) (line_of end.now) (Rose (E.faults errors.old) (E.faults errors.new)) }
+    ensures quiet { line_of end.now ≡ [] → errors.new ≡ errors.old }
 {
     if let End::Well | End::OtherRight = end {
         return;

@@ -6,7 +6,7 @@ pub struct World<S, K, E, F> {
     pub source: S,
     /// Where the reply goes to.
     pub sink: K,
-    /// Where the line of a status that isn't 0 goes to.
+    /// Where the line of a status goes to, if it has one.
     pub errors: E,
     /// The script, the rules and the users, by name.
     pub files: F,

@@ -61,6 +61,14 @@ impl Path {
         self.text.as_slice()
     }
 
+    /// A copy. Its one error is want of memory.
+    pub fn copy(&self) -> Result<Path, NoMemory>
+        ensures { IfOk result (λ p. p ≡ self.now) }
+    {
+        let text = self.text.clone()?;
+        Ok(Path { text })
+    }
+
     /// Whether it is `top` or stands below it: every path is under `/`.
     pub fn is_under(&self, top: &Path) -> bool
         ensures { result ≡ is_under self.now top.now }

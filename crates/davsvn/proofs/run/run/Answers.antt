@@ -7,7 +7,7 @@ pub returns : goal.returns
 returns g c =
     let end = c.work-end.result in
     rw c.status_of.ensures (record {
-      says = (end, refl, c.put_line.ensures, c.work-end.ensures.says);
+      says = (end, refl, c.put_line.ensures.line, c.put_line.ensures.quiet, c.work-end.ensures.says);
       usage = says_usage _ _ _ _ _ _ _ _ (command c.args.words.now) end c.work-end.ensures.says;
       untouched = c.work-end.ensures.untouched;
       reached = c.work-end.ensures.reached;
