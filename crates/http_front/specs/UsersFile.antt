@@ -1,5 +1,5 @@
 -- The users file.
-use Rattle.std.specs.Prelude.{ℕ, ◌≡◌, ⊤, Bool, true, false, ◌&&◌, ◌||◌, not, nat_le, List, [], ◌∷◌, ◌++◌, length, map, Option, None, Some, Result, Ok, Err, if◌then◌else◌}
+use Rattle.std.specs.Prelude.{ℕ, ◌≡◌, ⊤, Bool, true, false, ◌&&◌, ◌||◌, not, nat_le, List, [], ◌∷◌, length, map, Option, None, Some, Result, Ok, Err, if◌then◌else◌}
 use Rattle.std.specs.List.{filter, filter_map, find, list_any, enumerate_from}
 use Rattle.std.specs.Option.{option_map}
 use Rattle.std.specs.Str.{bytes_eq}
@@ -10,12 +10,20 @@ use Rattle.http_front.specs.declared.user.User.{User}
 use Rattle.http_front.specs.declared.users_fault.UsersFault.{UsersFault}
 use Rattle.http_front.specs.declared.users_fault.UsersFault.TheVariants.{BadUsers, NoMemory}
 
+-- the most users that a users file may have
+abbrev pub most_users : ℕ
+most_users = 10000
+
+-- the most bytes that a password may have
+abbrev pub most_password_bytes : ℕ
+most_password_bytes = 255
+
 -- ---- one line
 
 -- the user of this name and this password, if they can be a user's
 abbrev pub user_of_pair : Option (List ℕ × List ℕ) → Option User
 user_of_pair None = None
-user_of_pair (Some pair) = if is_user_name pair.0 && nat_le (length pair.1) 255 then Some (record { name = pair.0; password = pair.1 }) else None
+user_of_pair (Some pair) = if is_user_name pair.0 && nat_le (length pair.1) most_password_bytes then Some (record { name = pair.0; password = pair.1 }) else None
 
 -- the user of a line, NAME:PASSWORD, split at the first colon
 abbrev pub user_of_line : List ℕ → Option User
@@ -33,7 +41,7 @@ names users = map (λ u. u.name) users
 -- after these users a line is refused that is no user's, that has the name of one of them, or that is one too many
 abbrev pub is_refused : List User → Option User → Bool
 is_refused users None = true
-is_refused users (Some u) = nat_le 10000 (length users) || list_any (bytes_eq u.name) (names users)
+is_refused users (Some u) = nat_le most_users (length users) || list_any (bytes_eq u.name) (names users)
 
 -- the users of these lines
 unfoldable pub all_users : List (ℕ × List ℕ) → List User

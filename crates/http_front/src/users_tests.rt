@@ -155,7 +155,7 @@ fn lengths(rt: HostRuntime) -> Result<(), Fail> {
 #[test]
 fn told(rt: HostRuntime) -> Result<(), Fail> {
     let text = format!(in rt.alloc(); "{}", UsersFault::BadUsers { line: 7 })?;
-    assert_eq!(&rt; text.as_str(), "line 7: not a user");
+    assert_eq!(&rt; text.as_str(), "line 7: not a user, a name twice, or too many users");
     Ok(())
 }
 
