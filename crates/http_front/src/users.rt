@@ -84,9 +84,8 @@ impl Users {
     pub(crate) fn number_of(&self, name: &[u8], password: &[u8]) -> Option<u32>
         ensures { result ≡ number_of self.now name.now password.now }
     {
-        let place = match self.place(name) {
-            None => return None,
-            Some(place) => place,
+        let Some(place) = self.place(name) else {
+            return None;
         };
         if password != self.users[place].password.get() {
             return None;
