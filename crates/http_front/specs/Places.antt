@@ -6,7 +6,7 @@ use Rattle.std.specs.Cmp.Lexicographic.{slice_cmp}
 use Rattle.std.specs.BTreeMap.{BTreeMap, get_by}
 use Rattle.std.specs.Str.{bytes_eq}
 use Rattle.http_front.specs.declared.user.User.{User}
-use Rattle.http_front.specs.UsersFile.{names}
+use Rattle.http_front.specs.UsersFile.{most_users, names}
 
 -- the map has per name the place of the first user of that name, its keys being read as texts
 abbrev pub Places : {K : Type 0} → BTreeMap K ℕ → (K → List ℕ) → List User → Type 0
@@ -16,4 +16,4 @@ Places map text users = (name : List ℕ) → get_by (λ k. slice_cmp nat_cmp na
 pub record IsIndexed {K : Type 0} (map : BTreeMap K ℕ) (text : K → List ℕ) (users : List User) : Type 0 where
   pub places : Places map text users
   pub distinct : IsDistinct bytes_eq (names users)
-  pub few : length users ≤ 10000
+  pub few : length users ≤ most_users

@@ -1,6 +1,7 @@
 -- The users file.
-use Rattle.std.specs.Prelude.{ℕ, ◌≡◌, ⊤, Bool, true, false, ◌&&◌, ◌||◌, not, nat_le, List, [], ◌∷◌, ◌++◌, length, map, Option, None, Some, option_to_list, Result, Ok, Err, if◌then◌else◌}
-use Rattle.std.specs.List.{filter, filter_map, list_any, enumerate_from}
+use Rattle.std.specs.Prelude.{ℕ, ◌≡◌, ⊤, Bool, true, false, ◌&&◌, ◌||◌, not, nat_le, List, [], ◌∷◌, length, map, Option, None, Some, Result, Ok, Err, if◌then◌else◌}
+use Rattle.std.specs.List.{filter, filter_map, find, list_any, enumerate_from}
+use Rattle.std.specs.Option.{option_map}
 use Rattle.std.specs.Str.{bytes_eq}
 use Rattle.dsv_base.specs.Lines.{cut_at}
 use Rattle.dsv_base.specs.Names.{is_user_name}
@@ -9,12 +10,20 @@ use Rattle.http_front.specs.declared.user.User.{User}
 use Rattle.http_front.specs.declared.users_fault.UsersFault.{UsersFault}
 use Rattle.http_front.specs.declared.users_fault.UsersFault.TheVariants.{BadUsers, NoMemory}
 
+-- the most users that a users file may have
+abbrev pub most_users : ℕ
+most_users = 10000
+
+-- the most bytes that a password may have
+abbrev pub most_password_bytes : ℕ
+most_password_bytes = 255
+
 -- ---- one line
 
 -- the user of this name and this password, if they can be a user's
 abbrev pub user_of_pair : Option (List ℕ × List ℕ) → Option User
 user_of_pair None = None
-user_of_pair (Some pair) = if is_user_name pair.0 && nat_le (length pair.1) 255 then Some (record { name = pair.0; password = pair.1 }) else None
+user_of_pair (Some pair) = if is_user_name pair.0 && nat_le (length pair.1) most_password_bytes then Some (record { name = pair.0; password = pair.1 }) else None
 
 -- the user of a line, NAME:PASSWORD, split at the first colon
 abbrev pub user_of_line : List ℕ → Option User
@@ -32,18 +41,24 @@ names users = map (λ u. u.name) users
 -- after these users a line is refused that is no user's, that has the name of one of them, or that is one too many
 abbrev pub is_refused : List User → Option User → Bool
 is_refused users None = true
-is_refused users (Some u) = nat_le 10000 (length users) || list_any (bytes_eq u.name) (names users)
-
--- the number of the first line that is refused, of lines that stand after those of these users
-unfoldable pub first_refused : List User → List (ℕ × List ℕ) → Option ℕ
-first_refused users [] = None
-first_refused users (line ∷ rest) =
-    if is_refused users (user_of_line line.1) then Some line.0
-    else first_refused (users ++ option_to_list (user_of_line line.1)) rest
+is_refused users (Some u) = nat_le most_users (length users) || list_any (bytes_eq u.name) (names users)
 
 -- the users of these lines
 unfoldable pub all_users : List (ℕ × List ℕ) → List User
 all_users lines = filter_map (λ line. user_of_line line.1) lines
+
+-- each item together with those in front of it
+abbrev pub with_before : {X : Type 0} → List X → List (List X × X)
+with_before [] = []
+with_before (x ∷ xs) = ([], x) ∷ map (λ p. (x ∷ p.0, p.1)) (with_before xs)
+
+-- after the users of the lines in front of it the line is refused
+abbrev pub is_refused_there : List (ℕ × List ℕ) × (ℕ × List ℕ) → Bool
+is_refused_there p = is_refused (all_users p.0) (user_of_line p.1.1)
+
+-- the number of the first line that is refused
+unfoldable pub first_refused : List (ℕ × List ℕ) → Option ℕ
+first_refused lines = option_map (λ p. p.1.0) (find is_refused_there (with_before lines))
 
 -- these users, unless a line is refused
 abbrev pub unless_refused : List User → Option ℕ → Result (List User) UsersFault
@@ -52,7 +67,7 @@ unless_refused users (Some number) = Err (BadUsers number)
 
 -- the users of a users file, or the first line that is refused
 unfoldable pub users_of : List ℕ → Result (List User) UsersFault
-users_of bytes = unless_refused (all_users (user_lines 1 (file_lines bytes))) (first_refused [] (user_lines 1 (file_lines bytes)))
+users_of bytes = unless_refused (all_users (user_lines 1 (file_lines bytes))) (first_refused (user_lines 1 (file_lines bytes)))
 
 abbrev pub is_no_memory : UsersFault → Bool
 is_no_memory (BadUsers number) = false

@@ -56,15 +56,11 @@ fn login_with(alloc: Global, users: &Users, value: &[u8]) -> Result<Login, NoMem
 fn token_of(value: &[u8]) -> Option<&[u8]>
     ensures { option_copied result ≡ token_of value.now }
 {
-    match cut_at(value, b' ') {
-        None => None,
-        Some((scheme, token)) => {
-            if scheme.eq_ignore_ascii_case(b"basic") {
-                Some(token)
-            } else {
-                None
-            }
-        }
+    let (scheme, token) = cut_at(value, b' ')?;
+    if scheme.eq_ignore_ascii_case(b"basic") {
+        Some(token)
+    } else {
+        None
     }
 }
 

@@ -3,7 +3,7 @@ ghost use Rattle.httparse.specs.Grammar.{HasNoRequest, MayBecomeRequest};
 ghost use Rattle.httparse.specs.Spans.{IsHeaderWithin, IsRequestWithin, IsRequestOf};
 ghost use Rattle.http_front.specs.declared.user.User.{User};
 ghost use Rattle.http_front.specs.Fields.{is_named, has_field};
-ghost use Rattle.http_front.specs.Messages.{begins_with_line_end, has_unread_field};
+ghost use Rattle.http_front.specs.Messages.{most_head_bytes, most_header_lines, begins_with_line_end, has_unread_field};
 ghost use Rattle.http_front.specs.Answers.{Answers};
 ghost use Rattle.http_front.specs.Spans.{field_at, request_at};
 
@@ -65,8 +65,8 @@ fn read_whole(
     requires within { IsRequestWithin bytes.now headers.now head.now }
     requires reads { IsRequestOf bytes.now headers.now head.now }
     requires no_line_before { IsFalse (begins_with_line_end bytes.now) }
-    requires short { length bytes.now ≤ 16384 }
-    requires few { length headers.now ≤ 100 }
+    requires short { length bytes.now ≤ most_head_bytes }
+    requires few { length headers.now ≤ most_header_lines }
     ensures { Answers users.now bytes.now result }
 {
     if head.len != bytes.len() {

@@ -2,7 +2,7 @@ ghost use Rattle.std.specs.Prelude.{◌≡◌, ◌<◌, ◌∷◌, ◌++◌, [],
 ghost use Rattle.std.specs.List.{list_any, position_from};
 ghost use Rattle.std.specs.Str.{bytes_eq};
 ghost use Rattle.http_front.specs.Logins.{number_of};
-ghost use Rattle.http_front.specs.UsersFile.{names};
+ghost use Rattle.http_front.specs.UsersFile.{most_users, names};
 
 use crate::user::User;
 use dsv_base::NoMemory;
@@ -14,7 +14,8 @@ use std::marker::Model;
 pub(crate) const MOST_USERS: usize = 10_000;
 
 /// The users who may log in. Contracts see them as the list of the users, in the file's order.
-#[derive(Debug, Drop)]
+/// They have no Debug, which would show passwords.
+#[derive(Drop)]
 pub struct Users {
     users: Vec<User>,
     places: BTreeMap<Vec<u8>, usize>,
@@ -45,7 +46,7 @@ impl Users {
 
     /// These users and one more, who has a name of its own. The one error is want of memory.
     pub(crate) fn with(self, alloc: Global, user: User) -> Result<Users, NoMemory>
-        requires room { length self < 10000 }
+        requires room { length self < most_users }
         requires fresh { list_any (bytes_eq user.name) (names self) ≡ false }
         ensures { IfOk result (λ users. users ≡ self ++ user ∷ []) }
     {
@@ -83,9 +84,8 @@ impl Users {
     pub(crate) fn number_of(&self, name: &[u8], password: &[u8]) -> Option<u32>
         ensures { result ≡ number_of self.now name.now password.now }
     {
-        let place = match self.place(name) {
-            None => return None,
-            Some(place) => place,
+        let Some(place) = self.place(name) else {
+            return None;
         };
         if password != self.users[place].password.get() {
             return None;

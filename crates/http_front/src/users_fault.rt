@@ -9,7 +9,7 @@ use thiserror::Error;
 #[derive(Clone, Copy, Debug, PartialEq, Eq, Error)]
 pub enum UsersFault {
     /// The line is no user, is a second one of its name, or is the 10,001st.
-    #[error("line {line}: not a user")]
+    #[error("line {line}: not a user, a name twice, or too many users")]
     BadUsers { line: u32 },
     /// Want of memory.
     #[error("no memory")]

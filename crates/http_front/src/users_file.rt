@@ -15,9 +15,8 @@ const MOST_PASSWORD_BYTES: usize = 255;
 fn user_of_line(alloc: Global, line: &[u8]) -> Result<Option<User>, NoMemory>
     ensures { IfOk result (λ user. user ≡ user_of_line line.now) }
 {
-    let (name, password) = match cut_at(line, b':') {
-        None => return Ok(None),
-        Some(parts) => parts,
+    let Some((name, password)) = cut_at(line, b':') else {
+        return Ok(None);
     };
     if !is_user_name(name) {
         return Ok(None);
@@ -37,9 +36,8 @@ fn with_line(alloc: Global, users: Users, number: u32, line: &[u8]) -> Result<Us
     ensures more { IfOk result (λ all. all ≡ users ++ option_to_list (user_of_line line.now)) }
     ensures refused { IfErr result (SaysRefused number (is_refused users (user_of_line line.now))) }
 {
-    let user = match user_of_line(alloc, line)? {
-        None => return Err(UsersFault::BadUsers { line: number }),
-        Some(user) => user,
+    let Some(user) = user_of_line(alloc, line)? else {
+        return Err(UsersFault::BadUsers { line: number });
     };
     if users.len() >= MOST_USERS {
         return Err(UsersFault::BadUsers { line: number });

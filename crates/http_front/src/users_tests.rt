@@ -8,7 +8,7 @@ struct FileRow {
     users: Result<&'static [(&'static [u8], &'static [u8])], u32>,
 }
 
-const FILES: [FileRow; 15] = [
+const FILES: [FileRow; 18] = [
     FileRow {
         bytes: b"",
         users: Ok(&[]),
@@ -23,6 +23,10 @@ const FILES: [FileRow; 15] = [
     },
     FileRow {
         bytes: b"alice:apw\r",
+        users: Ok(&[(b"alice", b"apw\r")]),
+    },
+    FileRow {
+        bytes: b"alice:apw\r\r\n",
         users: Ok(&[(b"alice", b"apw\r")]),
     },
     FileRow {
@@ -67,6 +71,14 @@ const FILES: [FileRow; 15] = [
     },
     FileRow {
         bytes: b"alice:a\n\rbob:b\n",
+        users: Err(2),
+    },
+    FileRow {
+        bytes: b"alice:a\n\tbob:b\n",
+        users: Err(2),
+    },
+    FileRow {
+        bytes: b"alice:a\n\r",
         users: Err(2),
     },
 ];
@@ -116,7 +128,8 @@ fn many_users<R: AllocGlobal>(rt: &R, count: u32) -> Result<Vec<u8>, Fail> {
 
 #[test]
 fn most_users(rt: HostRuntime) -> Result<(), Fail> {
-    let text = many_users(&rt, 10_000)?;
+    let mut text = many_users(&rt, 10_000)?;
+    text.extend_from_slice(b"# no user\n \t\n")?;
     let users = users_in(&rt, text.as_slice())?;
     assert_eq!(&rt; users.number_of(b"user 9999", b"9999"), Some(9_999));
     let text = many_users(&rt, 10_001)?;
@@ -155,7 +168,10 @@ fn lengths(rt: HostRuntime) -> Result<(), Fail> {
 #[test]
 fn told(rt: HostRuntime) -> Result<(), Fail> {
     let text = format!(in rt.alloc(); "{}", UsersFault::BadUsers { line: 7 })?;
-    assert_eq!(&rt; text.as_str(), "line 7: not a user");
+    assert_eq!(&rt;
+        text.as_str(),
+        "line 7: not a user, a name twice, or too many users"
+    );
     Ok(())
 }
 
@@ -175,7 +191,7 @@ struct LoginRow {
 
 const USERS: &[u8] = b"alice:apw\nbob:\ncarol:c:d\n";
 
-const LOGINS: [LoginRow; 17] = [
+const LOGINS: [LoginRow; 21] = [
     LoginRow {
         fields: b"X-Authorization: Basic YWxpY2U6YXB3\r\n",
         who: Who::Nobody,
@@ -217,7 +233,23 @@ const LOGINS: [LoginRow; 17] = [
         who: Who::Wrong,
     },
     LoginRow {
+        fields: b"Authorization: Basic YWxpY2U6\r\n",
+        who: Who::Wrong,
+    },
+    LoginRow {
+        fields: b"Authorization: Basic QWxpY2U6YXB3\r\n",
+        who: Who::Wrong,
+    },
+    LoginRow {
+        fields: b"Authorization: Basic OmFwdw==\r\n",
+        who: Who::Wrong,
+    },
+    LoginRow {
         fields: b"Authorization: Basic ZGF2ZTphcHc=\r\n",
+        who: Who::Wrong,
+    },
+    LoginRow {
+        fields: b"Authorization: Basic YWxp!Y2U6YXB3\r\n",
         who: Who::Wrong,
     },
     LoginRow {

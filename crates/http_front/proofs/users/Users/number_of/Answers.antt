@@ -22,8 +22,8 @@ equal false h = cc
 found : (name : List ℕ) (inside users : List User) (place : Option ℕ) (at : ℕ) → inside ≡ users → place ≡ position_from (bytes_eq name) 0 (names users) → place ≡ Some at → position_from (bytes_eq name) 0 (names inside) ≡ Some at
 found name inside users place at is first some = ap (λ us. position_from (bytes_eq name) 0 (names us)) is ∙ sym first ∙ some
 
-pub returns-in-None : goal.returns-in-None
-returns-in-None c = sym (none_named c.args.name.now c.args.password.now 0 1 c.args.self.now (sym c.place.ensures ∙ c.in-None.is))
+pub returns-in_default : goal.returns-in_default
+returns-in_default c = sym (none_named c.args.name.now c.args.password.now 0 1 c.args.self.now (sym c.place.ensures ∙ c.in_default.is))
 
 pub index-requires : goal.index-requires
 index-requires c =
