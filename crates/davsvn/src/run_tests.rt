@@ -309,66 +309,85 @@ const ASK: Row = Row {
     ..TEXT
 };
 
-const ASK_ROWS: [Row; 15] = [
-    ASK,
-    Row {
-        words: b"accessof --user bob --repos demo --rules rules /sec",
-        output: b"no\n",
-        ..ASK
-    },
-    Row {
+/// A question over a rules file: the words, the file, what is printed, and the exit status.
+#[derive(Clone, Copy)]
+struct Answer {
+    words: &'static [u8],
+    rules: &'static [u8],
+    output: &'static [u8],
+    status: u8,
+}
+
+/// A question over the worked rules whose right is what was expected, or wasn't compared.
+const NO: Answer = Answer {
+    words: b"accessof --user bob --repos demo --rules rules /sec",
+    rules: RULES,
+    output: b"no\n",
+    status: 0,
+};
+
+const ANSWERS: [Answer; 10] = [
+    NO,
+    Answer {
         words: b"accessof --rules rules --repos demo --user bob --recursive /",
-        output: b"no\n",
-        ..ASK
+        ..NO
     },
-    Row {
+    Answer {
         words: b"accessof --recursive --rules rules --repos demo --user alice /sec",
         output: b"rw\n",
-        ..ASK
+        ..NO
     },
     // nobody is logged in
-    Row {
+    Answer {
         words: b"accessof --rules rules --repos demo /pub",
-        ..ASK
+        output: b"r\n",
+        ..NO
     },
     // the right isn't the one that was expected: it is printed all the same
-    Row {
+    Answer {
         words: b"accessof --is r --rules rules --repos demo --user bob /sec",
         status: 9,
-        output: b"no\n",
-        ..ASK
+        ..NO
     },
-    Row {
+    Answer {
         words: b"accessof --is no --rules rules --repos demo --user bob /sec",
-        output: b"no\n",
-        ..ASK
+        ..NO
     },
+    // more than was expected is another right
+    Answer {
+        words: b"accessof --rules rules --repos demo --is r --user alice /sec",
+        output: b"rw\n",
+        status: 9,
+        ..NO
+    },
+    Answer {
+        words: b"accessof --rules rules --repos demo --is rw --recursive --user alice /sec",
+        rules: b"[/]\nalice = rw\n[/sec/k]\nalice = r\n",
+        output: b"r\n",
+        status: 9,
+    },
+    // a section of another repository
+    Answer {
+        words: b"accessof --rules rules --repos other --user bob /sec",
+        rules: b"[/]\n* = r\n[demo:/sec]\n* =\n",
+        output: b"r\n",
+        ..NO
+    },
+    // the value of an option is the next word, whatever it is
+    Answer {
+        words: b"accessof --rules rules --repos demo --user --recursive /pub",
+        output: b"r\n",
+        ..NO
+    },
+];
+
+const ASK_ROWS: [Row; 5] = [
+    ASK,
     Row {
         sink_fails: &[0],
         status: 5,
         output: b"",
         line: b"davsvn: write fault\n",
-        ..ASK
-    },
-    Row {
-        rules: None,
-        status: 6,
-        output: b"",
-        line: b"davsvn: file fault: rules\n",
-        ..ASK
-    },
-    // more than was expected is another right
-    Row {
-        words: b"accessof --rules rules --repos demo --is r --user alice /sec",
-        status: 9,
-        output: b"rw\n",
-        ..ASK
-    },
-    Row {
-        words: b"accessof --rules rules --repos demo --is rw --recursive --user alice /sec",
-        status: 9,
-        output: b"r\n",
-        rules: Some(b"[/]\nalice = rw\n[/sec/k]\nalice = r\n"),
         ..ASK
     },
     // a put that fails comes before the comparison
@@ -380,15 +399,11 @@ const ASK_ROWS: [Row; 15] = [
         line: b"davsvn: write fault\n",
         ..ASK
     },
-    // a section of another repository
     Row {
-        words: b"accessof --rules rules --repos other --user bob /sec",
-        rules: Some(b"[/]\n* = r\n[demo:/sec]\n* =\n"),
-        ..ASK
-    },
-    // the value of an option is the next word, whatever it is
-    Row {
-        words: b"accessof --rules rules --repos demo --user --recursive /pub",
+        rules: None,
+        status: 6,
+        output: b"",
+        line: b"davsvn: file fault: rules\n",
         ..ASK
     },
     // a name that no line defines
@@ -471,6 +486,21 @@ fn replies(rt: HostRuntime) -> Result<(), Fail> {
 fn runs_of_pipe(rt: HostRuntime) -> Result<(), Fail> {
     for row in &PIPE_ROWS {
         check_row(&rt, row)?;
+    }
+    Ok(())
+}
+
+#[test]
+fn answers(rt: HostRuntime) -> Result<(), Fail> {
+    for answer in &ANSWERS {
+        let row = Row {
+            words: answer.words,
+            rules: Some(answer.rules),
+            output: answer.output,
+            status: answer.status,
+            ..ASK
+        };
+        check_row(&rt, &row)?;
     }
     Ok(())
 }
