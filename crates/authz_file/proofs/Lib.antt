@@ -1,5 +1,4 @@
 pub mod Rows
-pub mod Blanks
 pub mod RepositoryCut
 pub mod Front
 pub mod LabelMap

@@ -1,23 +1,8 @@
 -- The lines of a rules file: without those that are skipped, and each with the lines that continue it.
 use Rattle.std.specs.Prelude.{ℕ, ◌+◌, Bool, ◌||◌, not, List, [], ◌∷◌, ◌++◌, if◌then◌else◌}
-use Rattle.std.specs.List.{list_all}
-use Rattle.dsv_base.specs.TextFiles.{is_blank, begins_with, is_skipped}
+use Rattle.dsv_base.specs.TextFiles.{begins_with, is_skipped, without_front}
 use Rattle.authz_file.specs.declared.line.Line.{Line}
 use Rattle.authz_file.specs.declared.line.Line.TheVariants.{Head, Body, Stray}
-
--- without the blanks in front
-abbrev pub without_front : List ℕ → List ℕ
-without_front [] = []
-without_front (b ∷ bs) = if is_blank b then without_front bs else b ∷ bs
-
--- without the blanks at the end
-abbrev pub without_back : List ℕ → List ℕ
-without_back [] = []
-without_back (b ∷ bs) = if list_all is_blank (b ∷ bs) then [] else b ∷ without_back bs
-
--- without the blanks around
-abbrev pub trimmed : List ℕ → List ℕ
-trimmed text = without_back (without_front text)
 
 -- it begins with a blank: where it isn't skipped, it continues a line
 abbrev pub is_indented : List ℕ → Bool

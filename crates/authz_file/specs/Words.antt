@@ -2,12 +2,11 @@
 use Rattle.std.specs.Prelude.{ℕ, ◌+◌, Bool, false, ◌||◌, not, List, [], ◌∷◌, map, take, drop, position, Option, None, Some, ◌==◌, codes, if◌then◌else◌}
 use Rattle.std.specs.List.{list_all, slice_split}
 use Rattle.std.specs.Str.{bytes_eq}
-use Rattle.dsv_base.specs.TextFiles.{begins_with}
+use Rattle.dsv_base.specs.TextFiles.{begins_with, trimmed}
 use Rattle.authz_file.specs.declared.right.Right.{Right}
 use Rattle.authz_file.specs.declared.right.Right.TheVariants.{No, Read, Write}
 use Rattle.authz_file.specs.declared.who.Who.{Who}
 use Rattle.authz_file.specs.declared.who.Who.TheVariants.{All, LoggedIn, Anonymous, Word}
-use Rattle.authz_file.specs.Lines.{trimmed}
 
 -- `=` or `:`
 abbrev pub is_separator : ℕ → Bool

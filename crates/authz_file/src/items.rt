@@ -1,13 +1,11 @@
 ghost use Rattle.std.specs.Prelude.{◌≡◌, ◌<◌, ◌≤◌, ◌∷◌, [], false, length, IfOk, IfSome, IfNone, All, take, slice_index, option_copied, map};
 ghost use Rattle.std.specs.List.{slice_split};
-ghost use Rattle.dsv_base.specs.TextFiles.{left_size};
-ghost use Rattle.authz_file.specs.Lines.{trimmed};
+ghost use Rattle.dsv_base.specs.TextFiles.{left_size, trimmed};
 ghost use Rattle.authz_file.specs.Words.{is_comma, words_if, words_of};
 ghost use Rattle.authz_file.specs.Reading.{items_left};
 
-use crate::text::trimmed;
 use crate::words::is_word;
-use dsv_base::{Bytes, List, NoMemory};
+use dsv_base::{Bytes, List, NoMemory, trimmed};
 use std::alloc::Global;
 
 /// Where the first comma stands.

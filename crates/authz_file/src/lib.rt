@@ -24,7 +24,6 @@ mod rules_fault;
 mod search;
 mod section;
 mod sections;
-mod text;
 mod walk;
 mod who;
 mod words;

@@ -3,8 +3,7 @@ ghost use Rattle.dsv_base.specs.TextFiles.{file_lines, lines_left};
 ghost use Rattle.authz_file.specs.Lines.{is_indented, is_head, continued, line_gives, opens, joined_lines};
 
 use crate::line::Line;
-use crate::text::without_front;
-use dsv_base::{Bytes, NoMemory, is_skipped, next_line};
+use dsv_base::{Bytes, NoMemory, is_skipped, next_line, without_front};
 use std::alloc::Global;
 
 /// Whether it begins with a blank.

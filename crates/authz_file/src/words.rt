@@ -3,8 +3,8 @@ ghost use Rattle.dsv_base.specs.TextFiles.{begins_with};
 ghost use Rattle.authz_file.specs.Words.{is_separator, is_user, is_word, is_comma, key_value, who_of, right_of, is_negated, principal_of};
 
 use crate::right::Right;
-use crate::text::trimmed;
 use crate::who::Who;
+use dsv_base::trimmed;
 
 /// Where the first `=` or `:` stands.
 fn separator(text: &[u8]) -> Option<usize>

@@ -1,4 +1,6 @@
 mod OptionWords
 mod Shown
+mod Listed
+mod Fields
 mod TooLong
 mod RunLemmas

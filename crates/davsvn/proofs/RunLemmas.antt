@@ -26,7 +26,6 @@ opened k0 k1 k2 names repository rules users first second script rules_file user
 
 -- what has to be known where a file isn't, so that the end says what a run's end has to
 abbrev pub OnUnread : (End → Type 0) → List ℕ → Unread → Type 0
-OnUnread says name unread.NotFirst = says NotFirst
 OnUnread says name (unread.BadLine line) = says (BadFile name line)
 OnUnread says name unread.Failed = says (FileFault name)
 OnUnread says name unread.NoMemory = ⊤
@@ -34,7 +33,6 @@ OnUnread says name unread.NoMemory = ⊤
 -- the end of a run that needs such a file: it tells the cause, or want of memory
 ended : (says : End → Type 0) (name : List ℕ) (why : Unread) (end : End) → ((end ≡ end_of name why) ⊎ (end ≡ NoMemory)) → says NoMemory → OnUnread says name why → says end
 ended says name why end (inr e) free cause = subst says (sym e) free
-ended says name unread.NotFirst end (inl e) free cause = subst says (sym e) cause
 ended says name (unread.BadLine line) end (inl e) free cause = subst says (sym e) cause
 ended says name unread.Failed end (inl e) free cause = subst says (sym e) cause
 ended says name unread.NoMemory end (inl e) free cause = subst says (sym e) free
@@ -49,26 +47,24 @@ module _ (contents : Contents) (names : FileNames) (left old new : Option (List 
   served repository rules users (FileFault name) opens s = absurd s
   served repository rules users NoMemory opens s = s
   served repository rules users OtherRight opens s = absurd s
-  served repository rules users NotFirst opens s = (inr (repository, rules, users, s.0, opens, s.1, s.2), s.3)
+  served repository rules users NotFirst opens s = ((repository, rules, users, s.0, opens, s.1, s.2), s.3)
 
 -- a rules file or a users file that isn't known, after a script that is
 module _ (contents then : Contents) (names : FileNames) (left old new : Option (List ℕ)) (over : Bool) (source_rose sink_rose : Type 0) (first before now : ℕ) (repository : Repository) (script : IsScript contents names.script repository) (same : then ≡ contents) (until : first ≤ before) where
-  rules_unread : (why : Unread) → ReadsFile {X = Rules} (AreRules then names.rules) ⊥ (AreNoRules then names.rules) (Err why) → HasCause before now (is_failed_read {X = Rules} (Err why)) → Keeps old new → OnUnread (PipeSays contents names left old new over source_rose sink_rose (Rose first now)) names.rules why
-  rules_unread unread.NotFirst bytes cause kept = absurd bytes
-  rules_unread (unread.BadLine line) bytes cause kept = (inl (repository, script, refl, subst (λ (k : Contents). AreNoRules k names.rules line) same bytes), kept)
+  rules_unread : (why : Unread) → ReadsFile {X = Rules} (AreRules then names.rules) (AreNoRules then names.rules) (Err why) → HasCause before now (is_failed_read {X = Rules} (Err why)) → Keeps old new → OnUnread (PipeSays contents names left old new over source_rose sink_rose (Rose first now)) names.rules why
+  rules_unread (unread.BadLine line) bytes cause kept = (inr (inl (repository, script, refl, subst (λ (k : Contents). AreNoRules k names.rules line) same bytes)), kept)
   rules_unread unread.Failed bytes cause kept = (inr (inl (repository, script, refl)), Rose-earlier first before now until cause.rose, kept)
   rules_unread unread.NoMemory bytes cause kept = tt
 
-  users_unread : (rules : Rules) → AreRules contents names.rules rules → (why : Unread) → ReadsFile {X = List User} (AreUsers then names.users) ⊥ (AreNoUsers then names.users) (Err why) → HasCause before now (is_failed_read {X = List User} (Err why)) → Keeps old new → OnUnread (PipeSays contents names left old new over source_rose sink_rose (Rose first now)) names.users why
-  users_unread rules rules_file unread.NotFirst bytes cause kept = absurd bytes
-  users_unread rules rules_file (unread.BadLine line) bytes cause kept = (inr (repository, rules, script, rules_file, refl, subst (λ (k : Contents). AreNoUsers k names.users line) same bytes), kept)
+  users_unread : (rules : Rules) → AreRules contents names.rules rules → (why : Unread) → ReadsFile {X = List User} (AreUsers then names.users) (AreNoUsers then names.users) (Err why) → HasCause before now (is_failed_read {X = List User} (Err why)) → Keeps old new → OnUnread (PipeSays contents names left old new over source_rose sink_rose (Rose first now)) names.users why
+  users_unread rules rules_file (unread.BadLine line) bytes cause kept = (inr (inr (repository, rules, script, rules_file, refl, subst (λ (k : Contents). AreNoUsers k names.users line) same bytes)), kept)
   users_unread rules rules_file unread.Failed bytes cause kept = (inr (inr (repository, rules, script, rules_file, refl)), Rose-earlier first before now until cause.rose, kept)
   users_unread rules rules_file unread.NoMemory bytes cause kept = tt
 
-  pub rules_ended : (why : Unread) (end : End) → ReadsFile {X = Rules} (AreRules then names.rules) ⊥ (AreNoRules then names.rules) (Err why) → HasCause before now (is_failed_read {X = Rules} (Err why)) → Keeps old new → (end ≡ end_of names.rules why) ⊎ (end ≡ NoMemory) → PipeSays contents names left old new over source_rose sink_rose (Rose first now) end
+  pub rules_ended : (why : Unread) (end : End) → ReadsFile {X = Rules} (AreRules then names.rules) (AreNoRules then names.rules) (Err why) → HasCause before now (is_failed_read {X = Rules} (Err why)) → Keeps old new → (end ≡ end_of names.rules why) ⊎ (end ≡ NoMemory) → PipeSays contents names left old new over source_rose sink_rose (Rose first now) end
   rules_ended why end bytes cause kept is = ended (PipeSays contents names left old new over source_rose sink_rose (Rose first now)) names.rules why end is kept (rules_unread why bytes cause kept)
 
-  pub users_ended : (rules : Rules) → AreRules contents names.rules rules → (why : Unread) (end : End) → ReadsFile {X = List User} (AreUsers then names.users) ⊥ (AreNoUsers then names.users) (Err why) → HasCause before now (is_failed_read {X = List User} (Err why)) → Keeps old new → (end ≡ end_of names.users why) ⊎ (end ≡ NoMemory) → PipeSays contents names left old new over source_rose sink_rose (Rose first now) end
+  pub users_ended : (rules : Rules) → AreRules contents names.rules rules → (why : Unread) (end : End) → ReadsFile {X = List User} (AreUsers then names.users) (AreNoUsers then names.users) (Err why) → HasCause before now (is_failed_read {X = List User} (Err why)) → Keeps old new → (end ≡ end_of names.users why) ⊎ (end ≡ NoMemory) → PipeSays contents names left old new over source_rose sink_rose (Rose first now) end
   users_ended rules rules_file why end bytes cause kept is = ended (PipeSays contents names left old new over source_rose sink_rose (Rose first now)) names.users why end is kept (users_unread rules rules_file why bytes cause kept)
 
 is_usage : (end : End) → number_of end ≡ 1 → end ≡ Usage

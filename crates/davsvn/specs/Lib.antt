@@ -1,11 +1,12 @@
 pub mod AdapterStates
 pub mod States
 pub mod Views
-pub mod Targets
-pub mod Refusals
+pub mod Methods
+pub mod Media
+pub mod Listings
+pub mod Shown
 pub mod Replies
 pub mod ReadReplies
-pub mod Answers
 pub mod Options
 pub mod Commands
 pub mod Words

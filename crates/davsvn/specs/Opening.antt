@@ -14,7 +14,7 @@ use Rattle.rev_trees.specs.Scripts.{repository_from}
 use Rattle.davsvn.specs.declared.end.End.{End}
 use Rattle.davsvn.specs.declared.end.End.TheVariants as end
 use Rattle.davsvn.specs.declared.unread.Unread.{Unread}
-use Rattle.davsvn.specs.declared.unread.Unread.TheVariants.{NotFirst, BadLine, Failed, NoMemory}
+use Rattle.davsvn.specs.declared.unread.Unread.TheVariants.{BadLine, Failed, NoMemory}
 
 -- names with bytes, where they are told
 abbrev pub Contents : Type 0
@@ -24,12 +24,12 @@ Contents = Option (List (List ℕ × List ℕ))
 abbrev pub FileIs : (List ℕ → Type 0) → Contents → List ℕ → Type 0
 FileIs is contents name = (text : List ℕ) × Holds contents name text × is text
 
--- it is the script of the repository, or no script of the first form
+-- it is the script of the repository, or is refused at a line
 abbrev pub IsScript : Contents → List ℕ → Repository → Type 0
 IsScript contents name repository = FileIs (λ text. repository_from text ≡ Ok repository) contents name
 
-abbrev pub IsNoScript : Contents → List ℕ → Type 0
-IsNoScript = FileIs (λ text. repository_from text ≡ Err script_faults.NotFirst)
+abbrev pub IsNoScript : Contents → List ℕ → ℕ → Type 0
+IsNoScript contents name line = FileIs (λ text. repository_from text ≡ Err (script_faults.BadScript line)) contents name
 
 -- it gives the rules, or is refused at a line
 abbrev pub AreRules : Contents → List ℕ → Rules → Type 0
@@ -46,23 +46,20 @@ abbrev pub AreNoUsers : Contents → List ℕ → ℕ → Type 0
 AreNoUsers contents name line = FileIs (λ text. users_of text ≡ Err (users_faults.BadUsers line)) contents name
 
 -- what reading a file says of it
-abbrev pub ReadsFile : {X : Type 0} → (X → Type 0) → Type 0 → (ℕ → Type 0) → Result X Unread → Type 0
-ReadsFile is not_first is_bad (Ok x) = is x
-ReadsFile is not_first is_bad (Err NotFirst) = not_first
-ReadsFile is not_first is_bad (Err (BadLine line)) = is_bad line
-ReadsFile is not_first is_bad (Err Failed) = ⊤
-ReadsFile is not_first is_bad (Err NoMemory) = ⊤
+abbrev pub ReadsFile : {X : Type 0} → (X → Type 0) → (ℕ → Type 0) → Result X Unread → Type 0
+ReadsFile is is_bad (Ok x) = is x
+ReadsFile is is_bad (Err (BadLine line)) = is_bad line
+ReadsFile is is_bad (Err Failed) = ⊤
+ReadsFile is is_bad (Err NoMemory) = ⊤
 
 abbrev pub is_failed_read : {X : Type 0} → Result X Unread → Bool
 is_failed_read (Ok x) = false
-is_failed_read (Err NotFirst) = false
 is_failed_read (Err (BadLine line)) = false
 is_failed_read (Err Failed) = true
 is_failed_read (Err NoMemory) = false
 
 -- the end of a run that needs a file which isn't known: it names the file, unless memory is wanting for that
 abbrev pub end_of : List ℕ → Unread → End
-end_of name NotFirst = end.NotFirst
 end_of name (BadLine line) = end.BadFile name line
 end_of name Failed = end.FileFault name
 end_of name NoMemory = end.NoMemory

@@ -1,61 +1,48 @@
--- Replies (RFC 9112, section 4): what they say, and the bytes that they are written as.
-use Rattle.std.specs.Prelude.{ℕ, Bool, true, List, [], ◌∷◌, ◌++◌, length, ◌==◌, codes, if◌then◌else◌}
-use Rattle.std.specs.List.{flat_map}
+-- The replies to reading requests that are answered.
+use Rattle.std.specs.Prelude.{ℕ, true, false, List, [], ◌∷◌, ◌++◌, codes}
 use Rattle.std.specs.Fmt.{decimal}
 use Rattle.dsv_base.specs.declared.field.Field.{Field}
-use Rattle.davsvn.specs.declared.refusal.Refusal.{Refusal}
-use Rattle.davsvn.specs.declared.refusal.Refusal.TheVariants.{NeedsLogin, Denied, NoNode}
-use Rattle.davsvn.specs.declared.reply.Reply.{Reply}
-use Rattle.davsvn.specs.Refusals.{row_of}
-
--- the reason phrase of a status (RFC 9110, section 15)
-abbrev pub reason_of : ℕ → List ℕ
-reason_of status = if status == 200 then codes "OK" else if status == 401 then codes "Unauthorized" else if status == 403 then codes "Forbidden" else codes "Not Found"
-
-abbrev pub field_line : List ℕ → List ℕ → List ℕ
-field_line name value = name ++ codes ": " ++ value ++ codes "\r\n"
-
-abbrev pub field_text : Field → List ℕ
-field_text field = field_line field.name field.value
-
--- a reply's bytes: it tells the length of its content, and whether the connection ends; one to HEAD leaves out the content alone
-unfoldable pub reply_text : Reply → Bool → Bool → List ℕ
-reply_text reply head_only last =
-    codes "HTTP/1.1 " ++ decimal reply.status ++ codes " " ++ reason_of reply.status ++ codes "\r\n"
-    ++ flat_map field_text reply.fields
-    ++ field_line (codes "Content-Length") (decimal (length reply.content))
-    ++ (if last then field_line (codes "Connection") (codes "close") else [])
-    ++ codes "\r\n"
-    ++ (if head_only then [] else reply.content)
-
-abbrev pub field_of : List ℕ → List ℕ → Field
-field_of name value = record { name = name; value = value }
+use Rattle.dsv_base.specs.declared.reply.Reply.{Reply}
+use Rattle.dav_replies.specs.declared.allow_kind.AllowKind.TheVariants as allow
+use Rattle.dav_replies.specs.Replies.{field_of}
+use Rattle.dav_replies.specs.Tables.{allow_list}
 
 abbrev pub content_type : List ℕ → Field
 content_type value = field_of (codes "Content-Type") value
 
--- the document that tells a refusal: the number of its cause and a text for the reader
-abbrev pub error_document : ℕ → List ℕ → List ℕ
-error_document code text =
-    codes "<?xml version=\"1.0\" encoding=\"utf-8\"?>\n"
-    ++ codes "<D:error xmlns:D=\"DAV:\" xmlns:m=\"http://apache.org/dav/xmlns\">"
-    ++ codes "<m:human-readable errcode=\"" ++ decimal code ++ codes "\">" ++ text ++ codes "</m:human-readable>"
-    ++ codes "</D:error>\n"
+-- content of a media type
+unfoldable pub content_reply : List ℕ → List ℕ → Reply
+content_reply media content = record { status = 200; fields = content_type media ∷ []; content = content; has_content = true }
 
--- a refusal for want of a login asks for one (RFC 7617)
-abbrev pub own_fields : Refusal → List Field
-own_fields NeedsLogin = field_of (codes "WWW-Authenticate") (codes "Basic realm=\"davsvn\"") ∷ []
-own_fields Denied = []
-own_fields NoNode = []
+abbrev pub html_type : List ℕ
+html_type = codes "text/html; charset=\"utf-8\""
 
-unfoldable pub refusal_reply : Refusal → Reply
-refusal_reply refusal = record {
-  status = (row_of refusal).status;
-  fields = own_fields refusal ++ content_type (codes "text/xml; charset=\"utf-8\"") ∷ [];
-  content = error_document (row_of refusal).code (row_of refusal).name;
-  has_content = true;
-}
+-- a field that tells where resources of some kind are (Subversion notes, "HTTP protocol v2")
+abbrev pub stub_field : List ℕ → List ℕ → List ℕ → Field
+stub_field root name stub = field_of name (root ++ stub)
 
--- a file's text; as yet no node has a property that tells another media type
-unfoldable pub file_reply : List ℕ → Reply
-file_reply text = record { status = 200; fields = content_type (codes "text/plain") ∷ []; content = text; has_content = true }
+-- of the repository, of revisions, of transactions
+unfoldable pub root_fields : List ℕ → List Field
+root_fields root = stub_field root (codes "SVN-Repository-Root") [] ∷ stub_field root (codes "SVN-Me-Resource") (codes "/!svn/me") ∷ []
+
+unfoldable pub rev_fields : List ℕ → List Field
+rev_fields root = stub_field root (codes "SVN-Rev-Root-Stub") (codes "/!svn/rvr") ∷ stub_field root (codes "SVN-Rev-Stub") (codes "/!svn/rev") ∷ []
+
+unfoldable pub txn_fields : List ℕ → List Field
+txn_fields root = stub_field root (codes "SVN-Txn-Root-Stub") (codes "/!svn/txr") ∷ stub_field root (codes "SVN-Txn-Stub") (codes "/!svn/txn") ∷ []
+
+-- what the server is, and which revision is the youngest of which repository
+unfoldable pub server_fields : List ℕ → ℕ → List Field
+server_fields uuid youngest =
+    field_of (codes "DAV") (codes "1,2")
+    ∷ field_of (codes "Allow") (allow_list allow.Public)
+    ∷ field_of (codes "SVN-Youngest-Rev") (decimal youngest)
+    ∷ field_of (codes "SVN-Repository-UUID") uuid
+    ∷ []
+
+-- what the server can do, and what a client has to know of the repository
+abbrev pub options_fields : List ℕ → List ℕ → ℕ → List Field
+options_fields root uuid youngest = server_fields uuid youngest ++ root_fields root ++ rev_fields root ++ txn_fields root
+
+unfoldable pub options_reply : List ℕ → List ℕ → ℕ → Reply
+options_reply root uuid youngest = record { status = 200; fields = options_fields root uuid youngest; content = []; has_content = false }

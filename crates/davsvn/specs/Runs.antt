@@ -10,19 +10,23 @@ use Rattle.http_front.specs.Messages.{IsFirstMessage}
 use Rattle.rev_trees.specs.Trees.{Repository}
 use Rattle.davsvn.specs.declared.end.End.{End}
 use Rattle.davsvn.specs.declared.end.End.TheVariants as end
-use Rattle.davsvn.specs.declared.reply.Reply.{Reply}
+use Rattle.dsv_base.specs.declared.reply.Reply.{Reply}
 use Rattle.davsvn.specs.Asking.{right_asked, right_line, is_expected}
 use Rattle.davsvn.specs.Commands.{Command, Pipe, AccessOf, FileNames, Question}
-use Rattle.davsvn.specs.Inputs.{IsInput}
+use Rattle.davsvn.specs.Inputs.{IsInput, IsNoMessage}
 use Rattle.davsvn.specs.Opening.{Contents, IsScript, IsNoScript, AreRules, AreNoRules, AreUsers, AreNoUsers}
-use Rattle.davsvn.specs.ReadReplies.{read_reply, viewer}
-use Rattle.davsvn.specs.Replies.{reply_text}
+use Rattle.davsvn.specs.ReadReplies.{read_reply, viewer, is_head}
+use Rattle.dav_replies.specs.Replies.{reply_text}
 use Rattle.davsvn.specs.States.{opening_state}
 use Rattle.davsvn.specs.Views.{view_of}
 
 -- the reply to a request, over what the state of the script and the rules shows to who sent it
-abbrev pub reply_to : Repository → List Rule → request.Request → Option Reply
+abbrev pub reply_to : Repository → List Rule → request.Request → Reply
 reply_to repository rules r = read_reply (view_of (opening_state repository rules) (viewer r.login)) r
+
+-- .. and the bytes that it is written as
+abbrev pub output_of : Repository → List Rule → request.Request → List ℕ
+output_of repository rules r = reply_text (reply_to repository rules r) (is_head r) r.last
 
 -- ---- `pipe`
 
@@ -40,11 +44,9 @@ AreOpen contents names = (repository : Repository) × (rules : Rules) × (users 
 pub record Replied (repository : Repository) (rules : List Rule) (users : List User) (left : Option (List ℕ)) (output : List ℕ) : Type 0 where
   pub input : List ℕ
   pub asked : request.Request
-  pub reply : Reply
   pub is_input : IsInput left input
   pub message : IsFirstMessage users input asked
-  pub answer : reply_to repository rules asked ≡ Some reply
-  pub written : output ≡ reply_text reply false false
+  pub written : output ≡ output_of repository rules asked
 
 -- .. over what the three files give
 pub record Answered (contents : Contents) (names : FileNames) (left : Option (List ℕ)) (output : List ℕ) : Type 0 where
@@ -54,20 +56,15 @@ pub record Answered (contents : Contents) (names : FileNames) (left : Option (Li
   pub opens : Opens contents names repository rules users
   pub replied : Replied repository rules.list users left output
 
--- the input is no message in the first form, or it asks for what isn't answered as yet
-abbrev pub IsUnanswered : Repository → List Rule → List User → List ℕ → Type 0
-IsUnanswered repository rules users input = (r : request.Request) → IsFirstMessage users input r → reply_to repository rules r ≡ None
-
--- the script isn't in its first form, or the three files are of their forms and the input isn't
+-- the three files are of their forms, and the input is no message in the first form
 abbrev pub OutOfForm : Contents → FileNames → Option (List ℕ) → Type 0
-OutOfForm contents names left =
-    IsNoScript contents names.script
-    ⊎ ((repository : Repository) × (rules : Rules) × (users : List User) × (input : List ℕ) × Opens contents names repository rules users × IsInput left input × IsUnanswered repository rules.list users input)
+OutOfForm contents names left = (repository : Repository) × (rules : Rules) × (users : List User) × (input : List ℕ) × Opens contents names repository rules users × IsInput left input × IsNoMessage users input
 
 -- the file of this name is the first that breaks its grammar, at this line; those before it are of their forms
 abbrev pub IsBadFile : Contents → FileNames → List ℕ → ℕ → Type 0
 IsBadFile contents names name line =
-    ((repository : Repository) × IsScript contents names.script repository × (name ≡ names.rules) × AreNoRules contents names.rules line)
+    ((name ≡ names.script) × IsNoScript contents names.script line)
+    ⊎ ((repository : Repository) × IsScript contents names.script repository × (name ≡ names.rules) × AreNoRules contents names.rules line)
     ⊎ ((repository : Repository) × (rules : Rules) × IsScript contents names.script repository × AreRules contents names.rules rules × (name ≡ names.users) × AreNoUsers contents names.users line)
 
 -- the file of this name was the next to be read: those before it are of their forms
@@ -92,7 +89,7 @@ SendSays old new output sink_rose _ = ⊥
 -- ended, and whether the counts of source and sink rose
 abbrev pub ServeSays : Repository → List Rule → List User → Option (List ℕ) → Option (List ℕ) → Option (List ℕ) → Bool → Type 0 → Type 0 → End → Type 0
 ServeSays repository rules users left old new over source_rose sink_rose end.Well = (output : List ℕ) × Replied repository rules users left output × Appends old new output × (over ≡ true)
-ServeSays repository rules users left old new over source_rose sink_rose end.NotFirst = (input : List ℕ) × IsInput left input × IsUnanswered repository rules users input × Keeps old new
+ServeSays repository rules users left old new over source_rose sink_rose end.NotFirst = (input : List ℕ) × IsInput left input × IsNoMessage users input × Keeps old new
 ServeSays repository rules users left old new over source_rose sink_rose end.ReadFault = source_rose × Keeps old new
 ServeSays repository rules users left old new over source_rose sink_rose end.WriteFault = (output : List ℕ) × Replied repository rules users left output × TookFront old new output × sink_rose × (over ≡ true)
 ServeSays repository rules users left old new over source_rose sink_rose end.NoMemory = Keeps old new

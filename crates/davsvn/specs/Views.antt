@@ -51,10 +51,14 @@ view_of state user = record {
   revisions = map (shown_revision (can_read state.rules state.name user)) state.revisions;
 }
 
--- past the youngest revision nothing is shown; as yet no target names such a revision
-abbrev pub no_revision : ShownRevision
-no_revision = record { nodes = []; hidden = [] }
+-- past the youngest revision nothing is shown
+abbrev pub shown_nothing : ShownRevision
+shown_nothing = record { nodes = []; hidden = [] }
+
+-- the shown nodes of a revision
+abbrev pub nodes_in : View → ℕ → Tree
+nodes_in view rev = (slice_index_or view.revisions rev shown_nothing).nodes
 
 -- the shown node at a path of a revision
 abbrev pub node_in : View → ℕ → List ℕ → Option TreeNode
-node_in view rev path = at path (slice_index_or view.revisions rev no_revision).nodes
+node_in view rev path = at path (nodes_in view rev)

@@ -18,6 +18,6 @@ pub enum End {
     NoMemory,
     /// The right isn't the one that was expected.
     OtherRight,
-    /// The script or the input isn't in its first form, or a readable directory was asked for.
+    /// The input isn't one message in the first form.
     NotFirst,
 }

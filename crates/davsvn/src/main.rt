@@ -1,31 +1,34 @@
-//! davsvn: Subversion's HTTP server as a proved program. As yet it answers one GET, and questions
-//! on the rights that a rules file gives.
+//! davsvn: Subversion's HTTP server as a proved program. As yet it answers one reading
+//! request, and questions on the rights that a rules file gives.
 #![tactic(auto)]
 
 #[cfg(test)]
 mod adapter_tests;
 mod answer;
+mod asked;
 mod asking;
 mod command;
 mod disk_files;
 mod end;
 mod filled;
+mod listing;
+mod media;
+#[cfg(test)]
+mod media_tests;
 mod opening;
 mod options;
 mod pipe;
 mod reading;
 mod receive;
 mod received;
-mod refusal;
-mod refusals;
-mod reply;
-mod reply_bytes;
-mod resource;
+mod replies;
+#[cfg(test)]
+mod reply_tests;
 mod run;
 #[cfg(test)]
 mod run_tests;
+mod site;
 mod status;
-mod target;
 mod unread;
 mod verb;
 mod words;

@@ -16,7 +16,7 @@ use std::alloc::Global;
 
 /// The bytes of a file.
 fn read_text<F: Files>(files: &mut F, name: &[u8]) -> Result<Bytes, Unread>
-    ensures bytes { ReadsFile (λ text. Holds (F.contents files.old) name.now text × (length text ≤ 268435456)) ⊥ (λ line. ⊥) result }
+    ensures bytes { ReadsFile (λ text. Holds (F.contents files.old) name.now text × (length text ≤ 268435456)) (λ line. ⊥) result }
     ensures same { F.contents files.new ≡ F.contents files.old }
     ensures cause { HasCause (F.faults files.old) (F.faults files.new) (is_failed_read result) }
 {
@@ -29,21 +29,21 @@ fn read_text<F: Files>(files: &mut F, name: &[u8]) -> Result<Bytes, Unread>
 
 /// Reads the script file and checks it.
 pub fn open_script<F: Files>(alloc: Global, files: &mut F, name: &[u8]) -> Result<Trees, Unread>
-    ensures bytes { ReadsFile (λ trees. IsScript (F.contents files.old) name.now (repository_of trees)) (IsNoScript (F.contents files.old) name.now) (λ line. ⊥) result }
+    ensures bytes { ReadsFile (λ trees. IsScript (F.contents files.old) name.now (repository_of trees)) (IsNoScript (F.contents files.old) name.now) result }
     ensures same { F.contents files.new ≡ F.contents files.old }
     ensures cause { HasCause (F.faults files.old) (F.faults files.new) (is_failed_read result) }
 {
     let text = read_text(files, name)?;
     match read_script(alloc, text.get()) {
         Ok(trees) => Ok(trees),
-        Err(ScriptFault::NotFirst) => Err(Unread::NotFirst),
+        Err(ScriptFault::BadScript { line }) => Err(Unread::BadLine(line)),
         Err(ScriptFault::NoMemory) => Err(Unread::NoMemory),
     }
 }
 
 /// Reads the rules file and checks it.
 pub fn open_rules<F: Files>(alloc: Global, files: &mut F, name: &[u8]) -> Result<Rules, Unread>
-    ensures bytes { ReadsFile (AreRules (F.contents files.old) name.now) ⊥ (AreNoRules (F.contents files.old) name.now) result }
+    ensures bytes { ReadsFile (AreRules (F.contents files.old) name.now) (AreNoRules (F.contents files.old) name.now) result }
     ensures same { F.contents files.new ≡ F.contents files.old }
     ensures cause { HasCause (F.faults files.old) (F.faults files.new) (is_failed_read result) }
 {
@@ -66,7 +66,7 @@ fn refused_at(line: Option<u32>) -> Unread
 
 /// Reads the users file and checks it.
 pub fn open_users<F: Files>(alloc: Global, files: &mut F, name: &[u8]) -> Result<Users, Unread>
-    ensures bytes { ReadsFile (AreUsers (F.contents files.old) name.now) ⊥ (AreNoUsers (F.contents files.old) name.now) result }
+    ensures bytes { ReadsFile (AreUsers (F.contents files.old) name.now) (AreNoUsers (F.contents files.old) name.now) result }
     ensures same { F.contents files.new ≡ F.contents files.old }
     ensures cause { HasCause (F.faults files.old) (F.faults files.new) (is_failed_read result) }
 {
@@ -83,7 +83,6 @@ pub fn end_of(alloc: Global, name: &[u8], why: Unread) -> End
     ensures { (result ≡ end_of name.now why) ⊎ (result ≡ end.NoMemory) }
 {
     match why {
-        Unread::NotFirst => End::NotFirst,
         Unread::BadLine(line) => match Bytes::of(alloc, name) {
             Ok(name) => End::BadFile(name, line),
             Err(NoMemory) => End::NoMemory,

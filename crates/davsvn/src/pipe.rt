@@ -1,9 +1,11 @@
-ghost use Rattle.std.specs.Prelude.{◌≡◌, ◌⊎◌, false, None};
+ghost use Rattle.std.specs.Prelude.{◌≡◌, ◌⊎◌, IsTrue};
 ghost use Rattle.std.specs.Option.{option_map};
 ghost use Rattle.dsv_outside.specs.Causes.{Rose};
 ghost use Rattle.rev_trees.specs.Forests.{repository_of};
 ghost use Rattle.davsvn.specs.Commands.{command};
-ghost use Rattle.davsvn.specs.Replies.{reply_text};
+ghost use Rattle.dav_replies.specs.Replies.{reply_text};
+ghost use Rattle.dav_replies.specs.Tables.{has_reason};
+ghost use Rattle.davsvn.specs.ReadReplies.{is_head};
 ghost use Rattle.davsvn.specs.Runs.{AreOpen, ForPipe, ServeSays, PipeSays, SendSays};
 ghost use Rattle.davsvn.specs.Words.{names_in};
 
@@ -13,13 +15,12 @@ use crate::end::End;
 use crate::opening::{end_of, open_rules, open_script, open_users};
 use crate::receive::receive;
 use crate::received::Received;
-use crate::reply::Reply;
-use crate::reply_bytes::reply_bytes;
 use authz_check::Policy;
 use authz_file::Rules;
-use dsv_base::NoMemory;
+use dav_replies::reply_bytes;
+use dsv_base::{NoMemory, Reply};
 use dsv_outside::{Files, Put, Sink, Source};
-use http_front::Users;
+use http_front::{Request, Users};
 use rev_trees::Trees;
 use std::alloc::Global;
 
@@ -73,17 +74,18 @@ fn serve<S: Source, K: Sink>(
         Received::NoMemory => return End::NoMemory,
     };
     match read_reply(alloc, trees, &policy, &request) {
-        Ok(Some(reply)) => send(alloc, &reply, sink),
-        Ok(None) => End::NotFirst,
+        Ok(reply) => send(alloc, &request, &reply, sink),
         Err(NoMemory) => End::NoMemory,
     }
 }
 
-/// Puts a reply, in one call.
-fn send<K: Sink>(alloc: Global, reply: &Reply, sink: &mut K) -> End
-    ensures { SendSays (K.taken sink.old) (K.taken sink.new) (reply_text reply.now false false) (Rose (K.faults sink.old) (K.faults sink.new)) result }
+/// Puts the reply to a request, in one call.
+fn send<K: Sink>(alloc: Global, request: &Request, reply: &Reply, sink: &mut K) -> End
+    requires reason { IsTrue (has_reason reply.now.status) }
+    ensures { SendSays (K.taken sink.old) (K.taken sink.new) (reply_text reply.now (is_head request.now) request.now.last) (Rose (K.faults sink.old) (K.faults sink.new)) result }
 {
-    let bytes = match reply_bytes(alloc, reply, false, false) {
+    let head_only = request.method.get() == b"HEAD".as_slice();
+    let bytes = match reply_bytes(alloc, reply, head_only, request.last) {
         Ok(bytes) => bytes,
         Err(NoMemory) => return End::NoMemory,
     };

@@ -16,16 +16,16 @@ use std::alloc::Global;
 /// world back with the exit status.
 ///
 /// `pipe --script F --rules F --users F` reads and checks the three files in this order, then the
-/// source, which has to be one GET; its reply goes to the sink. Each input is read only where those
-/// before it are of their forms.
+/// source, which has to be one request without a body; its reply goes to the sink. Each input is read
+/// only where those before it are of their forms.
 ///
 /// `accessof --rules F --repos NAME [--user NAME] [--is no|r|rw] [--recursive] PATH` reads and checks
 /// the rules, and puts the right to the sink: `no`, `r` or `rw` and LF.
 ///
-/// The options stand in any order. The status is 0 (done), 1 (other words), 2 (the rules or the users
-/// break their grammar), 4, 5 and 6 (a fault of the source, the sink, a file), 8 (want of memory), 9
-/// (the right isn't that of `--is`) or 13 (script or source aren't in their first form, or ask for
-/// what isn't answered yet). The errors take the status's line.
+/// The options stand in any order. The status is 0 (done), 1 (other words), 2 (a file breaks its
+/// grammar), 4, 5 and 6 (a fault of the source, the sink, a file), 8 (want of memory), 9 (the right
+/// isn't that of `--is`) or 13 (the source isn't one request in the first form). The errors take the
+/// status's line.
 ///
 /// What the clauses say of files, source and sink they say where these tell it; the objects in memory
 /// do.

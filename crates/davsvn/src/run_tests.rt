@@ -176,14 +176,13 @@ const PIPE_ROWS: [Row; 16] = [
         words: b"pipe --users users --script script --rules rules",
         ..TEXT
     },
-    // a directory, which everyone may read
+    // a message with a body, and two of them
     Row {
-        request: b"GET /svn/demo/!svn/rvr/1/pub HTTP/1.1\r\n\r\n",
+        request: b"GET / HTTP/1.1\r\nContent-Length: 1\r\n\r\nx",
         ..NOT_FIRST
     },
-    // .. which alice may read
     Row {
-        request: b"GET /svn/demo/!svn/rvr/1/sec HTTP/1.1\r\nAuthorization: Basic YWxpY2U6YXB3\r\n\r\n",
+        request: b"GET / HTTP/1.1\r\n\r\nGET / HTTP/1.1\r\n\r\n",
         ..NOT_FIRST
     },
     // no line, and the same status
@@ -198,14 +197,20 @@ const PIPE_ROWS: [Row; 16] = [
         ..NOT_FIRST
     },
     Row {
-        script: Some(b"davsvn-script 2\n"),
-        ..NOT_FIRST
+        script: Some(b"davsvn-script 1\nrepos ..\n"),
+        status: 2,
+        output: b"",
+        line: b"davsvn: script: line 2\n",
+        ..TEXT
     },
     // the script is checked before the rules are read
     Row {
         script: Some(b"davsvn-script 2\n"),
         rules: None,
-        ..NOT_FIRST
+        status: 2,
+        output: b"",
+        line: b"davsvn: script: line 1\n",
+        ..TEXT
     },
     // a group that holds itself
     Row {

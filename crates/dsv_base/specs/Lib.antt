@@ -1,5 +1,6 @@
 pub mod Gives
 pub mod Paths
+pub mod Escapes
 pub mod Names
 pub mod Lines
 pub mod TextFiles

@@ -7,6 +7,20 @@ use Rattle.dsv_base.specs.Lines.{lines_of}
 abbrev pub is_blank : ℕ → Bool
 is_blank b = b == 32 || b == 9
 
+-- without the blanks in front
+abbrev pub without_front : List ℕ → List ℕ
+without_front [] = []
+without_front (b ∷ bs) = if is_blank b then without_front bs else b ∷ bs
+
+-- without the blanks at the end
+abbrev pub without_back : List ℕ → List ℕ
+without_back [] = []
+without_back (b ∷ bs) = if list_all is_blank (b ∷ bs) then [] else b ∷ without_back bs
+
+-- without the blanks around
+abbrev pub trimmed : List ℕ → List ℕ
+trimmed text = without_back (without_front text)
+
 -- without a CR at the end
 abbrev pub without_return : List ℕ → List ℕ
 without_return text = if nat_le 1 (length text) && (slice_index text (length text - 1) == 13) then take (length text - 1) text else text

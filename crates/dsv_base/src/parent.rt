@@ -1,6 +1,6 @@
 ghost use Rattle.std.specs.Prelude.{◌≡◌};
 ghost use Rattle.std.specs.Option.{option_copied};
-ghost use Rattle.dsv_base.specs.Paths.{parent_text, before_last_slash, or_root};
+ghost use Rattle.dsv_base.specs.Paths.{parent_text, before_last_slash, or_root, name_of};
 
 /// The text of the directory that a path with this text stands in; `None` for `/`.
 #[tactic(auto, unfolding(crate::specs::Paths::parent_text))]
@@ -19,6 +19,19 @@ fn or_root(front: &[u8]) -> &[u8]
     match front {
         [] => b"/",
         _ => front,
+    }
+}
+
+/// What stands behind the last `/` of a path.
+#[tactic(auto, unfolding(crate::specs::Paths::name_of))]
+pub(crate) fn name_text(path: &[u8]) -> &[u8]
+    ensures { result.now ≡ name_of path.now }
+{
+    let front = before_last_slash(path);
+    if front.len() < path.len() {
+        &path[front.len() + 1..]
+    } else {
+        &[]
     }
 }
 

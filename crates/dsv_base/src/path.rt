@@ -1,8 +1,10 @@
-ghost use Rattle.std.specs.Prelude.{◌≡◌, false, IsTrue, IfOk, IsErrOf, count_by};
+ghost use Rattle.std.specs.Prelude.{◌≡◌, false, IsTrue, IfOk, IfSome, IsErr, IsErrOf, Some, count_by};
 ghost use Rattle.std.specs.List.{list_all};
-ghost use Rattle.dsv_base.specs.Paths.{is_path, is_component, is_component_byte, components, is_reserved, is_below_root, is_under, is_slash, root_text};
+ghost use Rattle.std.specs.Str.{bytes_eq};
+ghost use Rattle.dsv_base.specs.Paths.{is_path, is_component, is_component_byte, components, is_reserved, is_below_root, is_under, is_slash, root_text, parent_text, name_of, join_text, front_of};
 
 use crate::no_memory::NoMemory;
+use crate::parent::{name_text, parent_text};
 use crate::path_fault::PathFault;
 use crate::text::{has_noncharacter_bytes, is_utf8_text};
 use std::alloc::Global;
@@ -69,12 +71,67 @@ impl Path {
         Ok(Path { text })
     }
 
+    /// The directory that it stands in; `None` for `/`. Its one error is want of memory.
+    pub fn parent(&self) -> Result<Option<Path>, NoMemory>
+        ensures value { IfOk result (λ parent. parent ≡ parent_text self.now) }
+        ensures joined { IfOk result (λ parent. IfSome parent (λ directory. join_text directory (name_of self.now) ≡ self.now)) }
+    {
+        match parent_text(self.text.as_slice()) {
+            None => Ok(None),
+            Some(parent) => {
+                let text = Vec::from_slice(*self.text.allocator(), parent)?;
+                Ok(Some(Path { text }))
+            }
+        }
+    }
+
+    /// Its last component; nothing for `/`.
+    pub fn name(&self) -> &[u8]
+        ensures name { result.now ≡ name_of self.now }
+        ensures component { bytes_eq self.now root_text ≡ false → IsTrue (is_component (name_of self.now)) }
+    {
+        name_text(self.text.as_slice())
+    }
+
+    /// The path with `name` behind it, after a `/`, of which `/` has its own. [`PathFault::BadPath`]
+    /// comes exactly where that is no path.
+    pub fn join(&self, name: &[u8]) -> Result<Path, PathFault>
+        ensures value { IfOk result (λ p. (p ≡ join_text self.now name.now) × IsTrue (is_path (join_text self.now name.now))) }
+        ensures bad { IsErrOf result PathFault.BadPath → is_path (join_text self.now name.now) ≡ false }
+        ensures only { is_path (join_text self.now name.now) ≡ false → IsErr result }
+        ensures parent { IsTrue (is_component name.now) → IfOk result (λ p. parent_text p ≡ Some self.now) }
+        ensures name { IsTrue (is_component name.now) → IfOk result (λ p. name_of p ≡ name.now) }
+    {
+        let text = joined_text(*self.text.allocator(), self.text.as_slice(), name)?;
+        if !is_path_text(text.as_slice()) {
+            return Err(PathFault::BadPath);
+        }
+        Ok(Path { text })
+    }
+
     /// Whether it is `top` or stands below it: every path is under `/`.
     pub fn is_under(&self, top: &Path) -> bool
         ensures { result ≡ is_under self.now top.now }
     {
         is_under_text(self.text.as_slice(), top.text.as_slice())
     }
+}
+
+#[tactic(auto, unfolding(crate::specs::Paths::join_text))]
+fn joined_text(alloc: Global, path: &[u8], name: &[u8]) -> Result<Vec<u8>, NoMemory>
+    ensures { IfOk result (λ text. text.items ≡ join_text path.now name.now) }
+{
+    let mut text = Vec::from_slice(alloc, front_of(path))?;
+    text.push(b'/')?;
+    text.extend_from_slice(name)?;
+    Ok(text)
+}
+
+/// What stands before the `/` of each child of the directory.
+fn front_of(path: &[u8]) -> &[u8]
+    ensures { result.now ≡ front_of path.now }
+{
+    if path == b"/".as_slice() { b"" } else { path }
 }
 
 #[tactic(auto, unfolding(crate::specs::Paths::is_under))]

@@ -1,6 +1,6 @@
 ghost use Rattle.std.specs.Prelude.{◌≡◌, ◌≤◌, ◌∷◌, length, option_copied};
 ghost use Rattle.std.specs.List.{list_all};
-ghost use Rattle.dsv_base.specs.TextFiles.{is_blank, without_return, file_lines, lines_left, left_size, is_skipped};
+ghost use Rattle.dsv_base.specs.TextFiles.{is_blank, without_front, without_back, trimmed, without_return, file_lines, lines_left, left_size, is_skipped};
 
 use crate::lines::first_line;
 
@@ -16,6 +16,41 @@ pub fn is_all_blank(text: &[u8]) -> bool
     ensures { result ≡ list_all is_blank text.now }
 {
     text.iter().all(|b| is_blank(*b))
+}
+
+/// The text without the spaces and tabs in front.
+pub fn without_front(text: &[u8]) -> &[u8]
+    ensures { result.now ≡ without_front text.now }
+{
+    let mut rest = text;
+    'front: while let [first, after @ ..] = rest {
+        if !is_blank(*first) {
+            return rest;
+        }
+        rest = after;
+    }
+    rest
+}
+
+/// Without the spaces and tabs at the end.
+fn without_back(text: &[u8]) -> &[u8]
+    ensures { result.now ≡ without_back text.now }
+{
+    let mut rest = text;
+    'back: while let [before @ .., last] = rest {
+        if !is_blank(*last) {
+            return rest;
+        }
+        rest = before;
+    }
+    rest
+}
+
+/// The text without the spaces and tabs around it.
+pub fn trimmed(text: &[u8]) -> &[u8]
+    ensures { result.now ≡ trimmed text.now }
+{
+    without_back(without_front(text))
 }
 
 /// Whether the line, without its end, is skipped: it is blank, or a comment, which begins with

@@ -1,5 +1,5 @@
 -- What bytes that begin a message say of the messages that they can become.
-use Rattle.std.proofs.Common.{◌≡◌, ◌≢◌, ℕ, ◌<◌, ◌≤◌, true, false, ◌||◌, List, [], ◌∷◌, ◌++◌, length, map, refl, sym, ap, ◌∙◌, subst, arith, append-nil, length-append}
+use Rattle.std.proofs.Common.{◌≡◌, ℕ, ◌<◌, ◌≤◌, true, false, ◌||◌, List, [], ◌∷◌, ◌++◌, length, map, refl, sym, ap, ◌∙◌, subst, arith, append-nil, length-append}
 use Rattle.std.specs.Prelude.{◌==◌}
 use Rattle.std.proofs.lemmas.List.Elements.{All-head}
 use Rattle.std.proofs.lemmas.Bool.Decides.{nat_tests}
@@ -9,6 +9,7 @@ use Rattle.httparse.proofs.GrammarLemmas.{print_request-append, request_unique, 
 use Rattle.http_front.specs.declared.request.Request.{Request}
 use Rattle.http_front.specs.declared.user.User.{User}
 use Rattle.http_front.specs.Fields.{field_of_line}
+use Rattle.http_front.specs.Connections.{is_last}
 use Rattle.http_front.specs.Logins.{login_of}
 use Rattle.http_front.specs.Messages.{IsFirstMessage, IsNeverFirst, begins_with_line_end, has_unread_field}
 
@@ -94,11 +95,8 @@ module _ (users : List User) where
   pub never_with_rest : (bytes : List ℕ) (h : RequestHead) (rest : List ℕ) → ReadsRequest bytes h rest → 0 < length rest → IsNeverFirst users bytes
   never_with_rest bytes h rest reads some more r m = omega (arith, ap length (same_head bytes h rest more r reads m).1, length-append rest more)
 
-  pub never_of_version : (bytes : List ℕ) (h : RequestHead) (rest : List ℕ) → ReadsRequest bytes h rest → h.minor ≢ 1 → IsNeverFirst users bytes
-  never_of_version bytes h rest reads other more r m = other (ap (λ (k : RequestHead). k.minor) (same_head bytes h rest more r reads m).0 ∙ m.as_yet.version)
-
   no_unread_field : (bytes : List ℕ) (r : Request) → IsFirstMessage users bytes r → has_unread_field r.fields ≡ false
-  no_unread_field bytes r m = rw (m.as_yet.no_length, m.as_yet.no_coding, m.as_yet.no_connection) refl
+  no_unread_field bytes r m = rw (m.as_yet.no_length, m.as_yet.no_coding) refl
 
   pub never_with_unread_field : (bytes : List ℕ) (h : RequestHead) (rest : List ℕ) → ReadsRequest bytes h rest → has_unread_field (map field_of_line h.fields) ≡ true → IsNeverFirst users bytes
   never_with_unread_field bytes h rest reads has more r m =
@@ -117,4 +115,4 @@ module _ (users : List User) where
       same_fields
       (m.login ∙ ap (login_of users) same_fields ∙ sym n.login)
       (m.body m.as_yet.no_length m.as_yet.no_coding ∙ sym (n.body n.as_yet.no_length n.as_yet.no_coding))
-      (m.last m.as_yet.version m.as_yet.no_connection ∙ sym (n.last n.as_yet.version n.as_yet.no_connection))
+      (m.last ∙ ap (λ (k : RequestHead). is_last k.minor r.fields) same ∙ ap (is_last n.head.minor) same_fields ∙ sym n.last)

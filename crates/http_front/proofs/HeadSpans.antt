@@ -10,10 +10,11 @@ use Rattle.dsv_base.specs.declared.field.Field.{Field}
 use Rattle.http_front.specs.declared.request.Request.{Request}
 use Rattle.http_front.specs.declared.user.User.{User}
 use Rattle.http_front.specs.Fields.{field_of_line}
+use Rattle.http_front.specs.Connections.{is_last}
 use Rattle.http_front.specs.Logins.{login_of}
 use Rattle.http_front.specs.Messages.{IsFirstMessage, IsNeverFirst, begins_with_line_end, has_unread_field}
 use Rattle.http_front.specs.Spans.{field_at, fields_at, request_at}
-use Rattle.http_front.proofs.FirstMessages.{no_line_before, never_with_rest, never_of_version, never_with_unread_field}
+use Rattle.http_front.proofs.FirstMessages.{no_line_before, never_with_rest, never_with_unread_field}
 
 abbrev pub pair_field : List ℕ × List ℕ → Field
 pair_field p = record { name = p.0; value = p.1 }
@@ -31,17 +32,13 @@ pub fields_of_head : (bytes : List ℕ) (headers : List HeaderSpan) (spans : Req
 fields_of_head bytes headers spans h at =
     sym (spans_fields bytes (take spans.headers headers)) ∙ ap (map pair_field) at.fields ∙ lines_fields h.fields
 
-all_false : (a b c : Bool) → (a || b || c) ≡ false → (a ≡ false) × (b ≡ false) × (c ≡ false)
-all_false true b c h = cc
-all_false false true c h = cc
-all_false false false c h = (refl, refl, h)
+both_false : (a b : Bool) → (a || b) ≡ false → (a ≡ false) × (b ≡ false)
+both_false true b h = cc
+both_false false b h = (refl, h)
 
 module _ (users : List User) (bytes : List ℕ) (headers : List HeaderSpan) (spans : RequestSpans) (h : RequestHead) (at : IsRequestAt bytes headers spans h) where
   pub never_longer : spans.len ≤ length bytes → spans.len ≢ length bytes → IsNeverFirst users bytes
   never_longer fits other = never_with_rest users bytes h (drop spans.len bytes) at.reads (omega (arith, length-drop spans.len bytes))
-
-  pub never_other_version : spans.version ≢ 1 → IsNeverFirst users bytes
-  never_other_version other = never_of_version users bytes h (drop spans.len bytes) at.reads (λ e. other (at.version ∙ e))
 
   pub never_unread : (r : Request) → r ≡ request_at users bytes headers spans → has_unread_field r.fields ≡ true → IsNeverFirst users bytes
   never_unread r is has =
@@ -51,9 +48,9 @@ module _ (users : List User) (bytes : List ℕ) (headers : List HeaderSpan) (spa
   nothing_after : spans.len ≡ length bytes → drop spans.len bytes ≡ []
   nothing_after e = grind (arith, common_steps)
 
-  pub whole_message : (r : Request) → r ≡ request_at users bytes headers spans → length headers ≤ 100 → length bytes ≤ 16384 → IsFalse (begins_with_line_end bytes) → spans.len ≡ length bytes → spans.version ≡ 1 → has_unread_field r.fields ≡ false → IsFirstMessage users bytes r
-  whole_message r is few short begins len version none =
-      let unread = all_false _ _ _ none in
+  pub whole_message : (r : Request) → r ≡ request_at users bytes headers spans → length headers ≤ 100 → length bytes ≤ 16384 → IsFalse (begins_with_line_end bytes) → spans.len ≡ length bytes → has_unread_field r.fields ≡ false → IsFirstMessage users bytes r
+  whole_message r is few short begins len none =
+      let unread = both_false _ _ none in
       record {
         head = h;
         rest = drop spans.len bytes;
@@ -70,12 +67,10 @@ module _ (users : List User) (bytes : List ℕ) (headers : List HeaderSpan) (spa
         };
         login = ap (λ (q : Request). q.login) is ∙ ap (login_of users) (sym (ap (λ (q : Request). q.fields) is));
         body = λ no_length no_coding. ap (λ (q : Request). q.body) is;
-        last = λ of_one no_connection. ap (λ (q : Request). q.last) is;
+        last = ap (λ (q : Request). q.last) is ∙ ap (λ minor. is_last minor (fields_at bytes headers spans)) at.version ∙ ap (is_last h.minor) (sym (ap (λ (q : Request). q.fields) is));
         as_yet = record {
-          version = sym at.version ∙ version;
           no_length = unread.0;
           no_coding = unread.1;
-          no_connection = unread.2;
           nothing_after = nothing_after len;
         };
       }

@@ -1,6 +1,7 @@
 pub mod UsersFile
 pub mod Places
 pub mod Fields
+pub mod Connections
 pub mod Logins
 pub mod Messages
 pub mod Answers

@@ -1,9 +1,10 @@
--- The requests of HTTP/1.1 (RFC 9112) that are taken as yet: one head, without a body.
+-- The requests of HTTP/1.0 and HTTP/1.1 (RFC 9112) that are taken as yet: one head, without a body.
 use Rattle.std.specs.Prelude.{◌≡◌, ℕ, ◌<◌, ◌≤◌, Bool, false, ◌||◌, ◌==◌, List, [], ◌∷◌, ◌++◌, length, map, codes, IsFalse}
 use Rattle.httparse.specs.Grammar.{RequestHead, ReadsRequest, print_request, HasNoRequest, MayBecomeRequest}
 use Rattle.dsv_base.specs.declared.field.Field.{Field}
 use Rattle.http_front.specs.declared.request.Request.{Request}
 use Rattle.http_front.specs.declared.user.User.{User}
+use Rattle.http_front.specs.Connections.{is_last}
 use Rattle.http_front.specs.Fields.{field_of_line, has_field}
 use Rattle.http_front.specs.Logins.{login_of}
 
@@ -34,17 +35,10 @@ pub record SaysHead (head : RequestHead) (request : Request) : Type 0 where
 abbrev pub TellsBody : List Field → List ℕ → Type 0
 TellsBody fields body = IsFalse (has_field (codes "content-length") fields) → IsFalse (has_field (codes "transfer-encoding") fields) → body ≡ []
 
--- whether the request is the connection's last: one of HTTP/1.1 without Connection isn't (RFC 9112, section 9.3)
-abbrev pub TellsLast : ℕ → List Field → Bool → Type 0
-TellsLast minor fields last = minor ≡ 1 → IsFalse (has_field (codes "connection") fields) → last ≡ false
-
--- what is taken as yet: a head of HTTP/1.1 alone, with nothing after it and without the fields that say more of
--- the body and of the connection
-pub record TakenAsYet (head : RequestHead) (rest : List ℕ) (fields : List Field) : Type 0 where
-  pub version : head.minor ≡ 1
+-- what is taken as yet: a head alone, with nothing after it and without the fields that announce a body
+pub record TakenAsYet (rest : List ℕ) (fields : List Field) : Type 0 where
   pub no_length : IsFalse (has_field (codes "content-length") fields)
   pub no_coding : IsFalse (has_field (codes "transfer-encoding") fields)
-  pub no_connection : IsFalse (has_field (codes "connection") fields)
   pub nothing_after : rest ≡ []
 
 -- ---- messages
@@ -57,8 +51,8 @@ pub record IsFirstMessage (users : List User) (bytes : List ℕ) (request : Requ
   pub says : SaysHead head request
   pub login : request.login ≡ login_of users request.fields
   pub body : TellsBody request.fields request.body
-  pub last : TellsLast head.minor request.fields request.last
-  pub as_yet : TakenAsYet head rest request.fields
+  pub last : request.last ≡ is_last head.minor request.fields
+  pub as_yet : TakenAsYet rest request.fields
 
 -- no bytes can follow that make these a message in the first form
 abbrev pub IsNeverFirst : List User → List ℕ → Type 0
@@ -79,4 +73,4 @@ pub record IsOpenHead (bytes : List ℕ) : Type 0 where
 
 -- a field is there that a message in the first form doesn't have
 abbrev pub has_unread_field : List Field → Bool
-has_unread_field fields = has_field (codes "content-length") fields || has_field (codes "transfer-encoding") fields || has_field (codes "connection") fields
+has_unread_field fields = has_field (codes "content-length") fields || has_field (codes "transfer-encoding") fields

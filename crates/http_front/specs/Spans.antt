@@ -1,11 +1,12 @@
 -- What the offsets of a head that was read say.
-use Rattle.std.specs.Prelude.{ℕ, false, List, [], map, take}
+use Rattle.std.specs.Prelude.{ℕ, List, [], map, take}
 use Rattle.httparse.specs.Spans.{span_bytes}
 use Rattle.httparse.specs.declared.spans.HeaderSpan.{HeaderSpan}
 use Rattle.httparse.specs.declared.spans.RequestSpans.{RequestSpans}
 use Rattle.dsv_base.specs.declared.field.Field.{Field}
 use Rattle.http_front.specs.declared.request.Request.{Request}
 use Rattle.http_front.specs.declared.user.User.{User}
+use Rattle.http_front.specs.Connections.{is_last}
 use Rattle.http_front.specs.Logins.{login_of}
 
 -- the field that a header line's offsets cover
@@ -24,5 +25,5 @@ request_at users bytes headers head = record {
   fields = fields_at bytes headers head;
   login = login_of users (fields_at bytes headers head);
   body = [];
-  last = false;
+  last = is_last head.version (fields_at bytes headers head);
 }

@@ -47,11 +47,12 @@ impl Front {
 
     /// The request at the front, or what its bytes are else.
     ///
-    /// As yet a request is in the first form: one head of HTTP/1.1 in at most 16,384 bytes with at
-    /// most 100 header lines, no line end before it and nothing after it, and no field
-    /// Content-Length, Transfer-Encoding or Connection. Its method and target may be any. Who it
-    /// comes from is said by its field Authorization and `users`. It is taken out of the front;
-    /// every other answer leaves the front as it was.
+    /// As yet a request is in the first form: one head in at most 16,384 bytes with at most 100
+    /// header lines, no line end before it and nothing after it, and no field Content-Length or
+    /// Transfer-Encoding. Its method and target may be any. Who it comes from is said by its field
+    /// Authorization and `users`, and whether the connection ends after it by its version and its
+    /// fields Connection. It is taken out of the front; every other answer leaves the front as it
+    /// was.
     ///
     /// [`Next::NotFirst`] comes only where no bytes that may follow make it a request in the first
     /// form. [`Next::More`] comes only where a head isn't whole, has fewer than 16,384 bytes, and

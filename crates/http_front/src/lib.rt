@@ -2,6 +2,7 @@
 #![tactic(auto)]
 
 mod authorization;
+mod connection;
 mod front;
 mod login;
 mod message;

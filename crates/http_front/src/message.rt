@@ -8,6 +8,7 @@ ghost use Rattle.http_front.specs.Answers.{Answers};
 ghost use Rattle.http_front.specs.Spans.{field_at, request_at};
 
 use crate::authorization::login_of;
+use crate::connection::is_last;
 use crate::next::Next;
 use crate::request::Request;
 use crate::users::Users;
@@ -72,9 +73,6 @@ fn read_whole(
     if head.len != bytes.len() {
         return Next::NotFirst;
     }
-    if head.version != 1 {
-        return Next::NotFirst;
-    }
     let request = match request_of(alloc, users, bytes, head, headers) {
         Ok(request) => request,
         Err(_) => return Next::NoMemory,
@@ -98,9 +96,7 @@ fn begins_with_line_end(bytes: &[u8]) -> bool
 fn has_unread_field(fields: &[Field]) -> bool
     ensures { result ≡ has_unread_field fields.now }
 {
-    has_field(fields, b"content-length")
-        || has_field(fields, b"transfer-encoding")
-        || has_field(fields, b"connection")
+    has_field(fields, b"content-length") || has_field(fields, b"transfer-encoding")
 }
 
 /// Whether one of the fields has this name, in any case of letters.
@@ -129,13 +125,14 @@ fn request_of(
 {
     let fields = fields_of(alloc, bytes, &headers[..head.headers])?;
     let login = login_of(alloc, users, fields.get())?;
+    let last = is_last(head.version, fields.get());
     Ok(Request {
         method: Bytes::of(alloc, head.method.of(bytes))?,
         target: Bytes::of(alloc, head.path.of(bytes))?,
         fields,
         login,
         body: Bytes::from_vec(Vec::new(alloc)),
-        last: false,
+        last,
     })
 }
 

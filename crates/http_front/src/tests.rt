@@ -26,7 +26,7 @@ struct Row {
     kind: Kind,
 }
 
-const ROWS: [Row; 16] = [
+const ROWS: [Row; 15] = [
     Row {
         bytes: b"GET /a%20b HTTP/1.1\r\nHost:  demo \r\nX-A: 1\r\n\r\n",
         kind: Kind::Request,
@@ -45,7 +45,7 @@ const ROWS: [Row; 16] = [
     },
     Row {
         bytes: b"GET / HTTP/1.0\r\n\r\n",
-        kind: Kind::NotFirst,
+        kind: Kind::Request,
     },
     Row {
         bytes: b"GET / HTTP/1.1\r\nAuthorization: Basic YTpi\r\n\r\n",
@@ -60,12 +60,8 @@ const ROWS: [Row; 16] = [
         kind: Kind::NotFirst,
     },
     Row {
-        bytes: b"GET / HTTP/1.1\r\nConnection:\r\n\r\n",
+        bytes: b"GET / HTTP/1.2\r\n\r\n",
         kind: Kind::NotFirst,
-    },
-    Row {
-        bytes: b"GET / HTTP/1.1\r\nConnections: close\r\n\r\n",
-        kind: Kind::Request,
     },
     Row {
         bytes: b"GET / HTTP/1.1\r\n\r\nG",
@@ -111,6 +107,42 @@ fn rows(rt: HostRuntime) -> Result<(), Fail> {
     let users = read_users(rt.alloc(), b"")?;
     'rows: for row in &ROWS {
         check_kind(&rt, &users, row.bytes, row.kind)?;
+    }
+    Ok(())
+}
+
+/// Heads, and whether the connection ends after the request.
+const LASTS: [(&[u8], bool); 9] = [
+    (b"GET / HTTP/1.1\r\n\r\n", false),
+    (b"GET / HTTP/1.0\r\n\r\n", true),
+    (b"GET / HTTP/1.0\r\nConnection: keep-alive\r\n\r\n", true),
+    (b"GET / HTTP/1.1\r\ncOnNeCtIoN: cLoSe\r\n\r\n", true),
+    (
+        b"GET / HTTP/1.1\r\nConnection: upgrade,\tclose ,x\r\n\r\n",
+        true,
+    ),
+    (
+        b"GET / HTTP/1.1\r\nConnection: a\r\nConnection: b, close\r\n\r\n",
+        true,
+    ),
+    (
+        b"GET / HTTP/1.1\r\nConnection: closed, x close, \r\n\r\n",
+        false,
+    ),
+    (b"GET / HTTP/1.1\r\nConnection:\r\n\r\n", false),
+    (b"GET / HTTP/1.1\r\nConnections: close\r\n\r\n", false),
+];
+
+#[test]
+fn lasts(rt: HostRuntime) -> Result<(), Fail> {
+    let users = read_users(rt.alloc(), b"")?;
+    'heads: for (head, last) in LASTS {
+        let mut front = Front::new(rt.alloc());
+        front.feed(head)?;
+        match front.next(&users) {
+            Next::Request(request) => assert_eq!(rt; request.last, last, "at {head:?}"),
+            _ => return Err("no request".into()),
+        }
     }
     Ok(())
 }

@@ -12,25 +12,20 @@ use Rattle.rev_trees.proofs.PlacesFound.{nowhere}
 use Rattle.rev_trees.specs.declared.place.Place.{Place}
 use Rattle.rev_trees.specs.declared.revision.FlatRevision.{FlatRevision}
 use Rattle.rev_trees.specs.Trees.{TreeNode, at}
-use Rattle.rev_trees.specs.Forests.{Numbered, ForestRevision, Forest, places_at, place_at, id_at, node_at, IsId, IsNodeOf}
+use Rattle.rev_trees.specs.Forests.{Numbered, ForestRevision, Forest, no_revision, revision_at, places_at, place_at, id_at, line_at, node_at, IsId, IsNodeOf}
 use Rattle.rev_trees.specs.Flat.{node_of, tree_in, in_order, IsPlaceOf, IsGapFor}
-use Rattle.rev_trees.specs.Kept.{numbered_from, revisions_from, forest_of, places_in, AreKept}
+use Rattle.rev_trees.specs.Kept.{revisions_from, forest_of, no_flat_revision, places_in, AreKept}
+use Rattle.rev_trees.specs.Numbers.{numbered_from}
 
-abbrev empty : FlatRevision
-empty = record { author = []; moment = 0; props = []; places = [] }
-
-abbrev no_places : ForestRevision
-no_places = record { author = []; moment = 0; props = []; places = [] }
-
-places-from : (from rev : ℕ) (rs : List FlatRevision) → (get_or (revisions_from from rs) rev no_places).places ≡ numbered_from (from + rev) 0 (places_in rs rev)
+places-from : (from rev : ℕ) (rs : List FlatRevision) → (get_or (revisions_from from rs) rev no_revision).places ≡ numbered_from (from + rev) 0 (places_in rs rev)
 places-from from rev [] = refl
 places-from from zero (r ∷ rs) = let e : from ≡ from + 0 = omega arith in ap (λ (n : ℕ). numbered_from n 0 r.places) e
 places-from from (suc rev) (r ∷ rs) =
     let e : (from + 1) + rev ≡ from + suc rev = omega arith in
     places-from (from + 1) rev rs ∙ ap (λ (n : ℕ). numbered_from n 0 (places_in rs rev)) e
 
-pub places-are : (name uuid : List ℕ) (rs : List FlatRevision) (rev : ℕ) → places_at (forest_of name uuid rs) rev ≡ numbered_from rev 0 (places_in rs rev)
-places-are name uuid rs rev = let e : 0 + rev ≡ rev = omega arith in places-from 0 rev rs ∙ ap (λ (n : ℕ). numbered_from n 0 (places_in rs rev)) e
+pub places-are : (name uuid : List ℕ) (room : ℕ) (rs : List FlatRevision) (rev : ℕ) → places_at (forest_of name uuid rs room) rev ≡ numbered_from rev 0 (places_in rs rev)
+places-are name uuid room rs rev = let e : 0 + rev ≡ rev = omega arith in places-from 0 rev rs ∙ ap (λ (n : ℕ). numbered_from n 0 (places_in rs rev)) e
 
 -- where the place of a path stands
 pub record StandsAt (rev from : ℕ) (places : List Place) (path : List ℕ) (numbered : Numbered) : Type 0 where
@@ -77,11 +72,11 @@ split_rev rev index h = omega arith
 split_index : (rev index : ℕ) → index < 4294967296 → (rev * 4294967296 + index) % 4294967296 ≡ index
 split_index rev index h = omega arith
 
-module _ (name uuid : List ℕ) (rs : List FlatRevision) (kept : AreKept rs) where
-  names_numbered : (rev : ℕ) (path : List ℕ) (numbered : Numbered) → place_at (forest_of name uuid rs) rev path ≡ Some numbered → Names rs (forest_of name uuid rs) numbered.id rev path
+module _ (name uuid : List ℕ) (room : ℕ) (rs : List FlatRevision) (kept : AreKept rs) where
+  names_numbered : (rev : ℕ) (path : List ℕ) (numbered : Numbered) → place_at (forest_of name uuid rs room) rev path ≡ Some numbered → Names rs (forest_of name uuid rs room) numbered.id rev path
   names_numbered rev path numbered e =
-      let s : StandsAt rev 0 (places_in rs rev) path numbered = stands rev 0 (places_in rs rev) path numbered (rw (places-are name uuid rs rev) at e) in
-      let short = kept.short rev in
+      let s : StandsAt rev 0 (places_in rs rev) path numbered = stands rev 0 (places_in rs rev) path numbered (rw (places-are name uuid room rs rev) at e) in
+      let short = (kept.flat rev).short in
       let b = s.below in
       let small : s.index < 4294967296 = omega (arith, short, b) in
       let id_is : numbered.id ≡ rev * 4294967296 + s.index = (let i = s.id_is in omega (arith, i)) in
@@ -93,33 +88,18 @@ module _ (name uuid : List ℕ) (rs : List FlatRevision) (kept : AreKept rs) whe
             ∙ ap (λ (n : ℕ). Some (get_or (places_in rs n) s.index d).node) (sym r) ∙ ap (λ (n : ℕ). Some (get_or (places_in rs (numbered.id / 4294967296)) n d).node) (sym a);
       }
 
-  with_numbered : (rev : ℕ) (path : List ℕ) (id : ℕ) (o : Option Numbered) → ((numbered : Numbered) → o ≡ Some numbered → Names rs (forest_of name uuid rs) numbered.id rev path) → option_map (λ (p : Numbered). p.id) o ≡ Some id → Names rs (forest_of name uuid rs) id rev path
+  with_numbered : (rev : ℕ) (path : List ℕ) (id : ℕ) (o : Option Numbered) → ((numbered : Numbered) → o ≡ Some numbered → Names rs (forest_of name uuid rs room) numbered.id rev path) → option_map (λ (p : Numbered). p.id) o ≡ Some id → Names rs (forest_of name uuid rs room) id rev path
   with_numbered rev path id None k e = absurd (cc)
-  with_numbered rev path id (Some numbered) k e = let s : numbered.id ≡ id = cc in subst (λ (n : ℕ). Names rs (forest_of name uuid rs) n rev path) s (k numbered refl)
+  with_numbered rev path id (Some numbered) k e = let s : numbered.id ≡ id = cc in subst (λ (n : ℕ). Names rs (forest_of name uuid rs room) n rev path) s (k numbered refl)
 
-  names : (rev : ℕ) (path : List ℕ) (id : ℕ) → id_at (forest_of name uuid rs) rev path ≡ Some id → Names rs (forest_of name uuid rs) id rev path
-  names rev path id e = with_numbered rev path id (place_at (forest_of name uuid rs) rev path) (names_numbered rev path) e
+  names : (rev : ℕ) (path : List ℕ) (id : ℕ) → id_at (forest_of name uuid rs room) rev path ≡ Some id → Names rs (forest_of name uuid rs room) id rev path
+  names rev path id e = with_numbered rev path id (place_at (forest_of name uuid rs room) rev path) (names_numbered rev path) e
 
-  pub below-of : (forest : Forest) (id : ℕ) → forest_of name uuid rs ≡ forest → IsId forest id → id % 4294967296 < length (places_in rs (id / 4294967296))
+  pub below-of : (forest : Forest) (id : ℕ) → forest_of name uuid rs room ≡ forest → IsId forest id → id % 4294967296 < length (places_in rs (id / 4294967296))
   below-of forest id is i = (names i.0 i.1 id (subst (λ (f : Forest). id_at f i.0 i.1 ≡ Some id) (sym is) i.2)).below
 
-  pub node-of : (forest : Forest) (id : ℕ) (place : Place) → forest_of name uuid rs ≡ forest → ((d : Place) → place ≡ get_or (places_in rs (id / 4294967296)) (id % 4294967296) d) → IsNodeOf forest id place.node
+  pub node-of : (forest : Forest) (id : ℕ) (place : Place) → forest_of name uuid rs room ≡ forest → ((d : Place) → place ≡ get_or (places_in rs (id / 4294967296)) (id % 4294967296) d) → IsNodeOf forest id place.node
   node-of forest id place is here = subst (λ (f : Forest). IsNodeOf f id place.node) is (λ rev path e. (names rev path id e).node_is place ∙ ap (λ (p : Place). Some p.node) (sym (here place)))
-
-pub look-of : (name uuid : List ℕ) (rs : List FlatRevision) (forest : Forest) (rev : ℕ) (path : List ℕ) → forest_of name uuid rs ≡ forest → option_map (λ (p : Numbered). p.id) (find (slice_cmp nat_cmp) path (numbered_from rev 0 (places_in rs rev))) ≡ id_at forest rev path
-look-of name uuid rs forest rev path is = ap (λ (ps : List (List ℕ × Numbered)). option_map (λ (p : Numbered). p.id) (find (slice_cmp nat_cmp) path ps)) (sym (places-are name uuid rs rev)) ∙ ap (λ (f : Forest). id_at f rev path) is
-
-length-from : (from : ℕ) (rs : List FlatRevision) → length (revisions_from from rs) ≡ length rs
-length-from from [] = refl
-length-from from (r ∷ rs) = let e = length-from (from + 1) rs in omega (arith, e)
-
-pub length-of : (name uuid : List ℕ) (rs : List FlatRevision) (forest : Forest) → forest_of name uuid rs ≡ forest → length forest.revisions ≡ length rs
-length-of name uuid rs forest is = ap (λ (f : Forest). length f.revisions) (sym is) ∙ length-from 0 rs
-
-pub places_in-or : (rs : List FlatRevision) (rev : ℕ) (d : FlatRevision) → rev < length rs → (get_or rs rev d).places ≡ places_in rs rev
-places_in-or [] rev d h = absurd (omega arith)
-places_in-or (x ∷ rs) zero d h = refl
-places_in-or (x ∷ rs) (suc rev) d h = places_in-or rs rev d (omega arith)
 
 -- the first places that have the path are the same, with numbers and without
 pub find-numbered : (rev from : ℕ) (places : List Place) (path : List ℕ) → at path (tree_in places) ≡ option_map (λ (p : Numbered). p.here) (find (slice_cmp nat_cmp) path (numbered_from rev from places))
@@ -130,11 +110,49 @@ find-numbered rev from (p ∷ ps) path =
       | false ↦ find-numbered rev (from + 1) ps path
     ]
 
+pub line-of : (name uuid : List ℕ) (room : ℕ) (rs : List FlatRevision) (forest : Forest) (rev : ℕ) (path : List ℕ) → forest_of name uuid rs room ≡ forest → option_map (λ (found : TreeNode). found.line) (at path (tree_in (places_in rs rev))) ≡ line_at forest rev path
+line-of name uuid room rs forest rev path is =
+    ap (option_map (λ (found : TreeNode). found.line)) (find-numbered rev 0 (places_in rs rev) path)
+    ∙ lines (find (slice_cmp nat_cmp) path (numbered_from rev 0 (places_in rs rev)))
+    ∙ ap (λ (ps : List (List ℕ × Numbered)). option_map (λ (p : Numbered). p.here.line) (find (slice_cmp nat_cmp) path ps)) (sym (places-are name uuid room rs rev))
+    ∙ ap (λ (f : Forest). line_at f rev path) is
+  where
+    lines : (o : Option Numbered) → option_map (λ (found : TreeNode). found.line) (option_map (λ (p : Numbered). p.here) o) ≡ option_map (λ (p : Numbered). p.here.line) o
+    lines None = refl
+    lines (Some p) = refl
+
+-- the commit and the changed paths of a revision
+revision-from : (from rev : ℕ) (rs : List FlatRevision) → let r : ForestRevision = get_or (revisions_from from rs) rev no_revision in let q : FlatRevision = get_or rs rev no_flat_revision in (r.commit ≡ q.commit) × (r.changed ≡ q.changed)
+revision-from from rev [] = (refl, refl)
+revision-from from zero (r ∷ rs) = (refl, refl)
+revision-from from (suc rev) (r ∷ rs) = revision-from (from + 1) rev rs
+
+pub commit-of : (name uuid : List ℕ) (room : ℕ) (rs : List FlatRevision) (forest : Forest) (rev : ℕ) → forest_of name uuid rs room ≡ forest → (get_or rs rev no_flat_revision).commit ≡ (revision_at forest rev).commit
+commit-of name uuid room rs forest rev is = sym (revision-from 0 rev rs).0 ∙ ap (λ (f : Forest). (revision_at f rev).commit) is
+
+pub changed-of : (name uuid : List ℕ) (room : ℕ) (rs : List FlatRevision) (forest : Forest) (rev : ℕ) → forest_of name uuid rs room ≡ forest → (get_or rs rev no_flat_revision).changed ≡ (revision_at forest rev).changed
+changed-of name uuid room rs forest rev is = sym (revision-from 0 rev rs).1 ∙ ap (λ (f : Forest). (revision_at f rev).changed) is
+
+pub look-of : (name uuid : List ℕ) (room : ℕ) (rs : List FlatRevision) (forest : Forest) (rev : ℕ) (path : List ℕ) → forest_of name uuid rs room ≡ forest → option_map (λ (p : Numbered). p.id) (find (slice_cmp nat_cmp) path (numbered_from rev 0 (places_in rs rev))) ≡ id_at forest rev path
+look-of name uuid room rs forest rev path is = ap (λ (ps : List (List ℕ × Numbered)). option_map (λ (p : Numbered). p.id) (find (slice_cmp nat_cmp) path ps)) (sym (places-are name uuid room rs rev)) ∙ ap (λ (f : Forest). id_at f rev path) is
+
+length-from : (from : ℕ) (rs : List FlatRevision) → length (revisions_from from rs) ≡ length rs
+length-from from [] = refl
+length-from from (r ∷ rs) = let e = length-from (from + 1) rs in omega (arith, e)
+
+pub length-of : (name uuid : List ℕ) (room : ℕ) (rs : List FlatRevision) (forest : Forest) → forest_of name uuid rs room ≡ forest → length forest.revisions ≡ length rs
+length-of name uuid room rs forest is = ap (λ (f : Forest). length f.revisions) (sym is) ∙ length-from 0 rs
+
+pub places_in-or : (rs : List FlatRevision) (rev : ℕ) (d : FlatRevision) → rev < length rs → (get_or rs rev d).places ≡ places_in rs rev
+places_in-or [] rev d h = absurd (omega arith)
+places_in-or (x ∷ rs) zero d h = refl
+places_in-or (x ∷ rs) (suc rev) d h = places_in-or rs rev d (omega arith)
+
 below_all-numbered : (x : List ℕ) (rev from : ℕ) (places : List Place) → below_all (slice_cmp nat_cmp) x (numbered_from rev from places) ≡ below_all (slice_cmp nat_cmp) x (tree_in places)
 below_all-numbered x rev from [] = refl
 below_all-numbered x rev from (p ∷ ps) = ap (λ b. is_lt (slice_cmp nat_cmp x p.path) && b) (below_all-numbered x rev (from + 1) ps)
 
-sorted-numbered : (rev from : ℕ) (places : List Place) → is_sorted (slice_cmp nat_cmp) (numbered_from rev from places) ≡ in_order (tree_in places)
+pub sorted-numbered : (rev from : ℕ) (places : List Place) → is_sorted (slice_cmp nat_cmp) (numbered_from rev from places) ≡ in_order (tree_in places)
 sorted-numbered rev from [] = refl
 sorted-numbered rev from (p ∷ ps) = λ i. below_all-numbered p.path rev (from + 1) ps i && sorted-numbered rev (from + 1) ps i
 

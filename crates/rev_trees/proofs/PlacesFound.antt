@@ -11,11 +11,8 @@ use Rattle.std.proofs.lemmas.List.Sorted.{IsNonDecreasingBy-from_default}
 use Rattle.rev_trees.specs.declared.place.Place.{Place}
 use Rattle.rev_trees.specs.declared.kind.Kind.TheVariants.{Dir}
 use Rattle.rev_trees.specs.Trees.{TreeNode}
-use Rattle.rev_trees.specs.Flat.{node_of, tree_in, in_order, IsPlaceOf, IsGapFor}
+use Rattle.rev_trees.specs.Flat.{node_of, entry, tree_in, in_order, IsPlaceOf, IsGapFor}
 use Rattle.rev_trees.proofs.Search.{find_here, put_here, IsGap, find_gap, put_gap, comparisons_rise}
-
-abbrev pub entry : Place → List ℕ × TreeNode
-entry place = (place.path, node_of place)
 
 -- a place of no tree, for what stands past the end
 abbrev pub nowhere : Place
@@ -74,7 +71,6 @@ module _ (places : List Place) (path : List ℕ) (sorted : T (in_order (tree_in 
     set = λ p same. put_gap (slice_cmp nat_cmp) nat_list_cmp_total path (node_of p) (tree_in places) i (omega (arith, length-tree_in places)) h
         ∙ ap (λ (k : List ℕ). insert (tree_in places) i (k, node_of p)) (sym same)
         ∙ insert-tree_in places i p;
-    behind = λ d zeroth some. ap (λ (e : List ℕ × TreeNode). slice_cmp nat_cmp e.0 path) (sym (get_or-tree_in places 0 d)) ∙ h.above 0 (entry d) (omega arith) (omega (arith, length-tree_in places));
   }
 
   key_at : (j : ℕ) (d : List ℕ × TreeNode) → j < length (tree_in places) → (get_or (tree_in places) j d).0 ≡ (get_or places j nowhere).path

@@ -1,32 +1,62 @@
 -- How a repository is kept: its revisions as flat lists of places, of which each has the number of
 -- its revision and of where it stands there.
-use Rattle.std.specs.Prelude.{ℕ, ◌+◌, ◌*◌, ◌≤◌, List, [], ◌∷◌, length, slice_index_or, IsTrue}
+use Rattle.std.specs.Prelude.{ℕ, ◌+◌, ◌*◌, ◌≤◌, List, [], ◌∷◌, None, length, map, slice_index_or, IsTrue}
+use Rattle.dsv_base.specs.Paths.{root_text}
+use Rattle.rev_trees.specs.declared.kind.Kind.TheVariants.{Dir}
 use Rattle.rev_trees.specs.declared.place.Place.{Place}
 use Rattle.rev_trees.specs.declared.revision.FlatRevision.{FlatRevision}
-use Rattle.rev_trees.specs.Forests.{Numbered, ForestRevision, Forest}
-use Rattle.rev_trees.specs.Flat.{node_of, tree_in, in_order}
-
--- the places of a revision, numbered from the given one on
-abbrev pub numbered_from : ℕ → ℕ → List Place → List (List ℕ × Numbered)
-numbered_from rev index [] = []
-numbered_from rev index (place ∷ places) = (place.path, record { id = rev * 4294967296 + index; here = node_of place }) ∷ numbered_from rev (index + 1) places
+use Rattle.rev_trees.specs.Trees.{Tree}
+use Rattle.rev_trees.specs.Forests.{Numbered, ForestRevision, Forest, no_commit}
+use Rattle.rev_trees.specs.Readies.{ReadyRevision}
+use Rattle.rev_trees.specs.Flat.{tree_in, in_order}
+use Rattle.rev_trees.specs.Numbers.{numbered_from}
+use Rattle.rev_trees.specs.Listed.{IsListed}
+use Rattle.rev_trees.specs.declared.entry.Entry.{Entry}
 
 abbrev pub numbered_revision : ℕ → FlatRevision → ForestRevision
-numbered_revision rev revision = record { author = revision.author; moment = revision.moment; props = revision.props; places = numbered_from rev 0 revision.places }
+numbered_revision rev revision = record { commit = revision.commit; changed = revision.changed; places = numbered_from rev 0 revision.places }
 
 abbrev pub revisions_from : ℕ → List FlatRevision → List ForestRevision
 revisions_from rev [] = []
 revisions_from rev (revision ∷ revisions) = numbered_revision rev revision ∷ revisions_from (rev + 1) revisions
 
-abbrev pub forest_of : List ℕ → List ℕ → List FlatRevision → Forest
-forest_of name uuid revisions = record { name = name; uuid = uuid; revisions = revisions_from 0 revisions }
+abbrev pub forest_of : List ℕ → List ℕ → List FlatRevision → ℕ → Forest
+forest_of name uuid revisions room = record { name = name; uuid = uuid; revisions = revisions_from 0 revisions; room = room }
 
--- no places past the youngest
+-- past the youngest stands nothing
+abbrev pub no_flat_revision : FlatRevision
+no_flat_revision = record { commit = no_commit; changed = []; places = []; entries = [] }
+
+-- the root as revision 0 has it
+abbrev pub root_place : Place
+root_place = record { path = root_text; node = record { kind = Dir; props = []; text = []; created = 0 }; line = record { since = 0; source = None } }
+
 abbrev pub places_in : List FlatRevision → ℕ → List Place
-places_in revisions rev = (slice_index_or revisions rev (record { author = []; moment = 0; props = []; places = [] })).places
+places_in revisions rev = (slice_index_or revisions rev no_flat_revision).places
+
+abbrev pub lists_in : List FlatRevision → ℕ → List (List Entry)
+lists_in revisions rev = (slice_index_or revisions rev no_flat_revision).entries
+
+-- the trees that changes copy from
+abbrev pub trees_in : List FlatRevision → List Tree
+trees_in revisions = map (λ revision. tree_in revision.places) revisions
+
+-- places that are a revision's
+pub record IsFlat (places : List Place) : Type 0 where
+  pub short : length places ≤ 4294967296
+  pub sorted : IsTrue (in_order (tree_in places))
+
+abbrev pub ready_of : ℕ → FlatRevision → ReadyRevision
+ready_of number revision = record { number = number; commit = revision.commit; changed = revision.changed; tree = tree_in revision.places }
+
+-- what can become a revision of this number
+pub record IsReady (number : ℕ) (revision : FlatRevision) : Type 0 where
+  pub few : number ≤ 2000000000
+  pub flat : IsFlat revision.places
+  pub listed : IsListed number revision.places revision.entries
 
 pub record AreKept (revisions : List FlatRevision) : Type 0 where
   pub some : 1 ≤ length revisions
   pub few : length revisions ≤ 2000000001
-  pub short : (rev : ℕ) → length (places_in revisions rev) ≤ 4294967296
-  pub sorted : (rev : ℕ) → IsTrue (in_order (tree_in (places_in revisions rev)))
+  pub flat : (rev : ℕ) → IsFlat (places_in revisions rev)
+  pub listed : (rev : ℕ) → IsListed rev (places_in revisions rev) (lists_in revisions rev)

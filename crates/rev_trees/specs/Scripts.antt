@@ -1,92 +1,46 @@
--- The script that a repository is read from, in its first form: the revisions 0 and 1, of which the
--- one has no items and the other has items `mkdir` and `put` alone.
-use Rattle.std.specs.Prelude.{ℕ, zero, suc, Bool, true, false, ◌&&◌, ◌||◌, List, [], ◌∷◌, Option, None, Some, Result, Ok, Err, length, take, drop, ◌==◌, nat_eq, nat_le, codes, if◌then◌else◌}
-use Rattle.std.specs.List.{list_all, starts_with}
-use Rattle.std.specs.Option.{option_and_then, option_map_or}
-use Rattle.std.specs.Str.{bytes_eq}
-use Rattle.std.specs.Char.{is_ascii_digit}
+-- The script that a repository is read from, item by item: each is named, where it is refused, by
+-- the line that it begins at, which is 1 and one more for each line feed before it.
+use Rattle.std.specs.Prelude.{ℕ, zero, suc, Bool, true, false, ◌||◌, List, [], ◌∷◌, Result, Ok, Err, ⊤, MatchBool, length, slice_index_or, nat_eq, ◌==◌, codes}
 use Rattle.dsv_base.specs.Gives.{◌>>=◌}
-use Rattle.dsv_base.specs.Lines.{cut_at, cut_line}
 use Rattle.dsv_base.specs.Names.{is_repository_name, is_user_name}
-use Rattle.dsv_base.specs.Numbers.{decimal}
-use Rattle.dsv_base.specs.Paths.{is_path}
-use Rattle.rev_trees.specs.declared.change.Change.{Change}
-use Rattle.rev_trees.specs.declared.change.Change.TheVariants.{Put, Mkdir}
 use Rattle.rev_trees.specs.declared.commit.Commit.{Commit}
-use Rattle.rev_trees.specs.declared.item.ItemHead.{ItemHead}
-use Rattle.rev_trees.specs.declared.item.ItemHead.TheVariants as head
-use Rattle.rev_trees.specs.declared.script.Script.{Script}
+use Rattle.rev_trees.specs.declared.item.Item.{Item}
+use Rattle.rev_trees.specs.declared.item.Item.TheVariants as item
+use Rattle.rev_trees.specs.declared.item_fault.ItemFault.{ItemFault}
 use Rattle.rev_trees.specs.declared.unfit.Unfit.{Unfit}
 use Rattle.rev_trees.specs.declared.script_fault.ScriptFault.{ScriptFault}
-use Rattle.rev_trees.specs.declared.script_fault.ScriptFault.TheVariants.{NotFirst, NoMemory}
-use Rattle.rev_trees.specs.Trees.{Repository, first_tree}
-use Rattle.rev_trees.specs.Changes.{revision_of, pushed}
+use Rattle.rev_trees.specs.declared.script_fault.ScriptFault.TheVariants.{BadScript, NoMemory}
+use Rattle.rev_trees.specs.Steps.{ok_where, line_from, word_from, after_front, number_from, longest, most_revision, at_line, line_after}
+use Rattle.rev_trees.specs.Uuids.{is_uuid}
+use Rattle.rev_trees.specs.Items.{one_part, item_from, Told, nothing_told, may_follow, with_prop, with_change}
+use Rattle.rev_trees.specs.Trees.{Repository, Revision}
+use Rattle.rev_trees.specs.Pushes.{first_revision, pushed}
 
-abbrev pub or_not_first : {X : Type 0} → Option X → Result X ScriptFault
-or_not_first None = Err NotFirst
-or_not_first (Some x) = Ok x
+-- ---- the head
 
-abbrev pub ok_where : {X : Type 0} → Bool → X → Result X ScriptFault
-ok_where true x = Ok x
-ok_where false x = Err NotFirst
-
--- a line without its line feed, and what stands after it
-abbrev pub line_from : List ℕ → Result (List ℕ × List ℕ) ScriptFault
-line_from text = or_not_first (cut_line text)
-
--- a word, which a blank ends, and what stands after that
-abbrev pub word_from : List ℕ → Result (List ℕ × List ℕ) ScriptFault
-word_from text = or_not_first (cut_at 32 text)
-
--- what stands after this front
-abbrev pub after_front : List ℕ → List ℕ → Result (List ℕ) ScriptFault
-after_front front text = ok_where (starts_with nat_eq text front) (drop (length front) text)
-
--- so many bytes, and what stands after them
-abbrev pub bytes_from : ℕ → List ℕ → Result (List ℕ × List ℕ) ScriptFault
-bytes_from count text = ok_where (nat_le count (length text)) (take count text, drop count text)
-
--- a number up to the given one
-abbrev pub number_from : ℕ → List ℕ → Result ℕ ScriptFault
-number_from most text = or_not_first (decimal most text)
-
--- no part of a script is longer
-abbrev pub longest : ℕ
-longest = 268435456
-
--- 36 bytes: lower-case hexadecimal digits in groups of 8, 4, 4, 4 and 12, with `-` between
-abbrev pub is_uuid_digit : ℕ → Bool
-is_uuid_digit b = is_ascii_digit b || (nat_le 97 b && nat_le b 102)
-
-abbrev pub is_uuid_group : ℕ → List ℕ → Bool
-is_uuid_group count group = nat_eq (length group) count && list_all is_uuid_digit group
-
--- what stands after a group of so many digits and the `-` that ends it
-abbrev pub after_uuid_group : ℕ → List ℕ → Option (List ℕ)
-after_uuid_group count text = option_and_then (λ cut. if is_uuid_group count cut.0 then Some cut.1 else None) (cut_at 45 text)
-
-abbrev pub after_three_groups : List ℕ → Option (List ℕ)
-after_three_groups text = option_and_then (after_uuid_group 4) (option_and_then (after_uuid_group 4) (after_uuid_group 8 text))
-
-unfoldable pub is_uuid : List ℕ → Bool
-is_uuid text = option_map_or (is_uuid_group 12) (option_and_then (after_uuid_group 4) (after_three_groups text)) false
+-- what a line has after this front, if it is of this kind
+abbrev pub told_line : (List ℕ → Bool) → List ℕ → List ℕ → Result (List ℕ × List ℕ) ItemFault
+told_line is_one front text = do
+  told ← after_front front text
+  line ← line_from told
+  ok_where (is_one line.0) line
 
 -- the three lines at the head of a script: the name, the uuid, and what stands after them
 unfoldable pub heading_from : List ℕ → Result (List ℕ × List ℕ × List ℕ) ScriptFault
 heading_from text = do
-  named ← after_front (codes "davsvn-script 1\nrepos ") text
-  line ← line_from named
-  name ← ok_where (is_repository_name line.0) line
-  identified ← after_front (codes "uuid ") name.1
-  uuid ← line_from identified
-  ok_where (is_uuid uuid.0) (name.0, uuid.0, uuid.1)
+  first ← at_line 1 (after_front (codes "davsvn-script 1\n") text)
+  name ← at_line 2 (told_line is_repository_name (codes "repos ") first)
+  uuid ← at_line 3 (told_line is_uuid (codes "uuid ") name.1)
+  Ok (name.0, uuid.0, uuid.1)
 
--- the first line of a revision: its number, and then the moment and the length of the author's name
-unfoldable pub revision_line : ℕ → List ℕ → Result (ℕ × ℕ) ScriptFault
+-- ---- a revision
+
+-- the first line of the revision of this number: its moment and the length of its author's name
+unfoldable pub revision_line : ℕ → List ℕ → Result (ℕ × ℕ) ItemFault
 revision_line number line = do
   numbers ← after_front (codes "revision ") line
   first ← word_from numbers
-  told ← number_from 2000000000 first.0
+  told ← number_from most_revision first.0
   second ← word_from first.1
   moment ← number_from 253402300799999999 second.0
   author ← number_from longest second.1
@@ -96,99 +50,91 @@ revision_line number line = do
 abbrev pub is_author : List ℕ → Bool
 is_author name = nat_eq (length name) 0 || is_user_name name
 
--- the first line of an item
-abbrev pub mkdir_head : List ℕ → Result ItemHead ScriptFault
-mkdir_head numbers = do
-  path ← number_from longest numbers
-  Ok (head.Mkdir path)
-
-abbrev pub put_head : List ℕ → Result ItemHead ScriptFault
-put_head numbers = do
-  path ← word_from numbers
-  path_length ← number_from longest path.0
-  text_length ← number_from longest path.1
-  Ok (head.Put path_length text_length)
-
-abbrev pub change_head : List ℕ → List ℕ → Result ItemHead ScriptFault
-change_head word numbers = if bytes_eq word (codes "mkdir") then mkdir_head numbers else if bytes_eq word (codes "put") then put_head numbers else Err NotFirst
-
-unfoldable pub item_line : List ℕ → Result ItemHead ScriptFault
-item_line line = if bytes_eq line (codes "end") then Ok head.End else (word_from line >>= (λ word. change_head word.0 word.1))
-
--- the bytes of an item: they are ended by a line feed
-abbrev pub mkdir_from : ℕ → List ℕ → Result (Change × List ℕ) ScriptFault
-mkdir_from path_length text = do
-  path ← bytes_from path_length text
-  rest ← after_front (codes "\n") path.1
-  ok_where (is_path path.0) (Mkdir path.0, rest)
-
-abbrev pub put_from : ℕ → ℕ → List ℕ → Result (Change × List ℕ) ScriptFault
-put_from path_length text_length text = do
-  path ← bytes_from path_length text
-  content ← bytes_from text_length path.1
-  rest ← after_front (codes "\n") content.1
-  ok_where (is_path path.0) (Put path.0 content.0, rest)
-
--- the change of an item, or none where the revision ends, and what stands after it
-abbrev pub some_change : Result (Change × List ℕ) ScriptFault → Result (Option Change × List ℕ) ScriptFault
-some_change read = read >>= (λ change. Ok (Some change.0, change.1))
-
-abbrev pub item_after : ItemHead → List ℕ → Result (Option Change × List ℕ) ScriptFault
-item_after head.End text = Ok (None, text)
-item_after (head.Mkdir path) text = some_change (mkdir_from path text)
-item_after (head.Put path content) text = some_change (put_from path content text)
-
-unfoldable pub item_from : List ℕ → Result (Option Change × List ℕ) ScriptFault
-item_from text = do
-  line ← line_from text
-  first ← item_line line.0
-  item_after first line.1
-
-abbrev pub with_change : Change → Result (List Change × List ℕ) ScriptFault → Result (List Change × List ℕ) ScriptFault
-with_change change read = read >>= (λ others. Ok (change ∷ others.0, others.1))
-
-abbrev pub and_others : (List ℕ → Result (List Change × List ℕ) ScriptFault) → Option Change × List ℕ → Result (List Change × List ℕ) ScriptFault
-and_others others (None, rest) = Ok ([], rest)
-and_others others (Some change, rest) = with_change change (others rest)
-
--- the changes of a revision up to its end, and what stands after that; there are at most so many items
-unfoldable pub changes_from : ℕ → List ℕ → Result (List Change × List ℕ) ScriptFault
-changes_from zero text = Err NotFirst
-changes_from (suc steps) text = item_from text >>= and_others (changes_from steps)
-
--- the revision of this number, and what stands after it
-unfoldable pub commit_from : ℕ → List ℕ → Result (Commit × List ℕ) ScriptFault
-commit_from number text = do
+-- that line with the author after it: moment, author, and what stands after them
+unfoldable pub revision_head : ℕ → List ℕ → Result (ℕ × List ℕ × List ℕ) ItemFault
+revision_head number text = do
   line ← line_from text
   told ← revision_line number line.0
-  bytes ← bytes_from told.1 line.1
-  author ← ok_where (is_author bytes.0) bytes
-  items ← after_front (codes "\n") author.1
-  changes ← changes_from (length items) items
-  Ok (record { author = author.0; moment = told.0; props = []; changes = changes.0 }, changes.1)
+  author ← one_part told.1 line.1
+  ok_where (is_author author.0) (told.0, author.0, author.1)
 
--- the script that the bytes spell: the revisions 0 and 1, of which the one has no changes, and nothing after them
-unfoldable pub script_from : List ℕ → Result Script ScriptFault
-script_from bytes = do
-  heading ← heading_from bytes
-  zeroth ← commit_from 0 heading.2
-  first ← commit_from 1 zeroth.1
-  ok_where (nat_eq (length zeroth.0.changes) 0 && nat_eq (length first.1) 0) (record { name = heading.0; uuid = heading.1; zeroth = zeroth.0; first = first.0 })
+-- the next item and what stands after it, where the item may stand after what was told
+unfoldable pub next_item : ℕ → Told → ℕ → List ℕ → Result (Item × List ℕ) ScriptFault
+next_item number told line text = at_line line (item_from number text >>= (λ read. ok_where (may_follow number told read.0) read))
 
-abbrev pub or_unfit : {X : Type 0} → Result X (ℕ × Unfit) → Result X ScriptFault
-or_unfit (Ok x) = Ok x
-or_unfit (Err why) = Err NotFirst
+-- what the items of a revision tell up to its end, and then the line and the text after that; or what those before a fault tell, and then the fault
+abbrev pub Items : Type 0
+Items = Told × Result (ℕ × List ℕ) ScriptFault
 
--- revision 0 has the root alone; revision 1 is that with the changes of its commit
-unfoldable pub repository_of_script : Script → Result Repository ScriptFault
-repository_of_script script = do
-  revisions ← or_unfit (pushed (revision_of script.zeroth first_tree ∷ []) script.first)
-  Ok (record { name = script.name; uuid = script.uuid; revisions = revisions })
+abbrev pub after_item : (Told → ℕ → List ℕ → Items) → Told → ℕ → ℕ → Item × List ℕ → Items
+after_item others told line next (item.End, rest) = (told, Ok (next, rest))
+after_item others told line next (item.Prop prop, rest) = others (with_prop told prop) next rest
+after_item others told line next (item.Change change, rest) = others (with_change told change line) next rest
 
--- the repository that the bytes of a script tell
+abbrev pub and_others : (Told → ℕ → List ℕ → Items) → Told → ℕ → List ℕ → Result (Item × List ℕ) ScriptFault → Items
+and_others others told line text (Err fault) = (told, Err fault)
+and_others others told line text (Ok read) = after_item others told line (line_after line text read.1) read
+
+-- the items of the revision of this number after those that told this; there are at most so many
+unfoldable pub items_from : ℕ → ℕ → Told → ℕ → List ℕ → Items
+items_from zero number told line text = (told, Err (BadScript line))
+items_from (suc steps) number told line text = and_others (items_from steps number) told line text (next_item number told line text)
+
+abbrev pub commit_of : List ℕ → ℕ → Told → Commit
+commit_of author moment told = record { author = author; moment = moment; props = told.props; changes = told.changes }
+
+-- a revision as it is read: its commit, as far as it was told before a fault, the line of each change, and then the line and the text after it, or the fault
+pub record Read : Type 0 where
+  pub commit : Commit
+  pub lines : List ℕ
+  pub after : Result (ℕ × List ℕ) ScriptFault
+
+abbrev pub read_of : ℕ × List ℕ × List ℕ → Items → Read
+read_of head items = record { commit = commit_of head.1 head.0 items.0; lines = items.0.lines; after = items.1 }
+
+-- the revision of this number, which begins at this line
+unfoldable pub revision_from : ℕ → ℕ → List ℕ → Result Read ScriptFault
+revision_from number line text = do
+  head ← at_line line (revision_head number text)
+  Ok (read_of head (items_from (length head.2) number nothing_told (line_after line text head.2) head.2))
+
+-- ---- all revisions
+
+-- the line of the first change that doesn't fit
+abbrev pub at_change : {X : Type 0} → List ℕ → Result X (ℕ × Unfit) → Result X ScriptFault
+at_change lines (Ok x) = Ok x
+at_change lines (Err why) = Err (BadScript (slice_index_or lines why.0 0))
+
+-- these revisions and the one that was read: a change that doesn't fit stands before the fault of an item
+abbrev pub with_read : List Revision → Read → Result (List Revision × ℕ × List ℕ) ScriptFault
+with_read revisions read = do
+  all ← at_change read.lines (pushed revisions read.commit)
+  after ← read.after
+  Ok (all, after.0, after.1)
+
+-- these revisions and those of the text, which begins at this line; there are at most so many
+unfoldable pub revisions_from : ℕ → List Revision → ℕ → List ℕ → Result (List Revision) ScriptFault
+revisions_from steps revisions line [] = Ok revisions
+revisions_from zero revisions line (b ∷ bs) = Err (BadScript line)
+revisions_from (suc steps) revisions line (b ∷ bs) = do
+  read ← revision_from (length revisions) line (b ∷ bs)
+  next ← with_read revisions read
+  revisions_from steps next.0 next.1 next.2
+
+-- the repository that the bytes of a script tell, or the line of the first item that is refused
 unfoldable pub repository_from : List ℕ → Result Repository ScriptFault
-repository_from bytes = script_from bytes >>= repository_of_script
+repository_from bytes = do
+  heading ← heading_from bytes
+  zeroth ← revision_from 0 4 heading.2
+  after ← zeroth.after
+  revisions ← revisions_from (length after.1) (first_revision zeroth.commit ∷ []) after.0 after.1
+  Ok (record { name = heading.0; uuid = heading.1; revisions = revisions })
 
-abbrev pub is_no_memory : ScriptFault → Bool
-is_no_memory NotFirst = false
-is_no_memory NoMemory = true
+abbrev pub wants_memory : ScriptFault → Bool
+wants_memory (BadScript line) = false
+wants_memory NoMemory = true
+
+-- what holds unless memory was wanted
+abbrev pub UnlessNoMemory : {X : Type 0} → Result X ScriptFault → Type 0 → Type 0
+UnlessNoMemory (Ok x) P = P
+UnlessNoMemory (Err fault) P = MatchBool (wants_memory fault) ⊤ P

@@ -4,7 +4,8 @@ use Rattle.std.specs.FinMap.{find}
 use Rattle.std.specs.Ordering.{nat_cmp}
 use Rattle.std.specs.Cmp.Lexicographic.{slice_cmp}
 use Rattle.dsv_base.specs.Paths.{root_text}
-use Rattle.dsv_base.specs.declared.prop.Prop.{Prop}
+use Rattle.rev_trees.specs.declared.changed.Changed.{Changed}
+use Rattle.rev_trees.specs.declared.commit.Commit.{Commit}
 use Rattle.rev_trees.specs.declared.kind.Kind.{Kind}
 use Rattle.rev_trees.specs.declared.kind.Kind.TheVariants.{File, Dir}
 use Rattle.rev_trees.specs.declared.node.Node.{Node}
@@ -48,11 +49,10 @@ new_file text r = record { node = record { kind = File; props = []; text = text;
 abbrev pub first_tree : Tree
 first_tree = (root_text, new_dir 0) ∷ []
 
--- a revision: its record and its tree
+-- a revision: its commit, the paths that this changed, and its tree
 pub record Revision : Type 0 where
-  pub author : List ℕ
-  pub moment : ℕ
-  pub props : List Prop
+  pub commit : Commit
+  pub changed : List Changed
   pub tree : Tree
 
 -- a repository: its name, its uuid and its revisions from 0 on

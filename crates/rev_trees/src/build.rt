@@ -1,61 +1,56 @@
-ghost use Rattle.std.specs.Prelude.{◌≡◌, ◌≤◌, length, IfOk, []};
-ghost use Rattle.std.specs.Prelude.{◌∷◌};
-ghost use Rattle.dsv_base.specs.Gives.{Gives};
-ghost use Rattle.rev_trees.specs.Scripts.{script_from, is_no_memory};
-ghost use Rattle.rev_trees.specs.Built.{root_place, revision_with, Builds, Tells, ReadsScript};
+ghost use Rattle.std.specs.Prelude.{◌≡◌, ◌+◌, ◌<◌, ◌≤◌, [], ⊤, MatchBool, length, slice_index_or, IfOk, OnOk};
+ghost use Rattle.dsv_base.specs.Gives.{GivesBy};
+ghost use Rattle.rev_trees.specs.Pushes.{pushed};
+ghost use Rattle.rev_trees.specs.Forests.{repository_of};
+ghost use Rattle.rev_trees.specs.Readies.{revisions_of, IsUnchanged};
+ghost use Rattle.rev_trees.specs.Scripts.{commit_of, at_change, revisions_from, repository_from, wants_memory};
+ghost use Rattle.rev_trees.specs.Reading.{zeroth_from, next_from, FirstFault, PreparesTold, with_revisions};
 
 use crate::commit::Commit;
-use crate::growth::grow;
-use crate::kind::Kind;
-use crate::line::Line;
-use crate::node::Node;
-use crate::place::Place;
-use crate::reader::{commit_from, heading_from};
-use crate::revision::FlatRevision;
-use crate::script::Script;
+use crate::push_fault::PushFault;
+use crate::reader::{heading_from, line_after, read_items, revision_head};
+use crate::ready::Ready;
 use crate::script_fault::ScriptFault;
+use crate::told::Told;
 use crate::trees::Trees;
-use dsv_base::{Bytes, List, NoMemory, Path, Rev};
+use dsv_base::{Bytes, Moment, Rev};
 use std::alloc::Global;
 
-/// The repository that a script tells.
+/// The repository that a script of at most 268,435,456 bytes tells.
 ///
-/// The script is davsvn's own text form of a repository (docs/FORMATS.md). This reads its first
-/// form: revisions 0 and 1, of which the one has no items and the other has `mkdir` and `put`
-/// items that fit. [`ScriptFault::NotFirst`] comes exactly where the bytes are none of that form.
+/// The script is davsvn's own text form of a repository (docs/FORMATS.md).
+/// [`ScriptFault::BadScript`] names the line where the first item begins, from the top, that is not
+/// in the grammar or doesn't fit.
 #[tactic(auto, unfolding(crate::specs::Scripts::repository_from))]
 pub fn read_script(alloc: Global, bytes: &[u8]) -> Result<Trees, ScriptFault>
     requires { length bytes.now ≤ 268435456 }
-    ensures { ReadsScript bytes.now result }
-{
-    let script = script_from(alloc, bytes)?;
-    trees_of(alloc, script)
-}
-
-/// What the bytes spell, before any change is tried.
-#[tactic(auto, unfolding(crate::specs::Scripts::script_from))]
-fn script_from(alloc: Global, bytes: &[u8]) -> Result<Script, ScriptFault>
-    requires { length bytes.now ≤ 268435456 }
-    ensures value { Gives is_no_memory result (script_from bytes.now) }
-    ensures few { IfOk result (λ s. length s.first.changes ≤ 268435456) }
+    ensures { GivesBy repository_of wants_memory result (repository_from bytes.now) }
 {
     let (name, uuid, rest) = heading_from(bytes)?;
-    let (zeroth, rest) = commit_from(alloc, revision(0), rest)?;
-    let (first, rest) = commit_from(alloc, revision(1), rest)?;
-    if !zeroth.changes.get().is_empty() {
-        return Err(ScriptFault::NotFirst);
-    }
-    if !rest.is_empty() {
-        return Err(ScriptFault::NotFirst);
-    }
-    let name = Bytes::of(alloc, name)?;
-    let uuid = Bytes::of(alloc, uuid)?;
-    Ok(Script {
-        name,
-        uuid,
-        zeroth,
-        first,
-    })
+    let (zeroth, line, rest) = zeroth_from(alloc, rest)?;
+    let trees = Trees::new(alloc, name, uuid, zeroth)?;
+    read_others(alloc, trees, line, rest)
+}
+
+/// The commit of revision 0, which stands after the head of a script, and the line and the text
+/// after it.
+fn zeroth_from(alloc: Global, text: &[u8]) -> Result<(Commit, u32, &[u8]), ScriptFault>
+    requires { length text.now ≤ 268435456 }
+    ensures value { GivesBy (λ x. (x.0, x.1, x.2.now)) wants_memory result (zeroth_from text.now) }
+    ensures none { IfOk result (λ x. x.0.changes ≡ []) }
+    ensures room { IfOk result (λ x. x.1 + length x.2.now ≤ 4 + length text.now) }
+    ensures shorter { IfOk result (λ x. length x.2.now ≤ length text.now) }
+{
+    let (moment, author, rest) = match revision_head(revision(0), text) {
+        Ok(head) => head,
+        Err(fault) => return Err(fault.at(4)),
+    };
+    let line = line_after(4, text, rest);
+    let mut told = Told::new(alloc);
+    let (line, rest) = read_items(alloc, revision(0), &mut told, line, rest)?;
+    let author = Bytes::of(alloc, author)?;
+    let (commit, _) = told.into_commit(author, moment);
+    Ok((commit, line, rest))
 }
 
 /// The revision of a number that is one.
@@ -69,93 +64,121 @@ fn revision(number: u32) -> Rev
     }
 }
 
-/// The trees of a script.
-fn trees_of(alloc: Global, script: Script) -> Result<Trees, ScriptFault>
-    requires { length script.first.changes ≤ 268435456 }
-    ensures { Tells script result }
+/// The trees with all revisions of the text, which begins at this line.
+fn read_others(alloc: Global, trees: Trees, line: u32, text: &[u8]) -> Result<Trees, ScriptFault>
+    requires room { line + length text.now ≤ 4294967295 }
+    requires few { length trees.revisions + length text.now ≤ 2000000000 }
+    ensures { GivesBy repository_of wants_memory result (with_revisions trees (revisions_from (length text.now) (revisions_of trees) line text.now)) }
 {
-    let Script {
-        name,
-        uuid,
-        zeroth,
-        first,
-    } = script;
-    let zeroth = zeroth_revision(alloc, zeroth)?;
-    let first = first_revision(alloc, first)?;
-    let revisions = both(alloc, zeroth, first)?;
-    Ok(Trees::of(name, uuid, revisions))
+    let mut trees = trees;
+    let mut begins = line;
+    let mut rest = text;
+    'revisions: while !rest.is_empty() {
+        let (next, after) = push_revision(alloc, &mut trees, begins, rest)?;
+        begins = next;
+        rest = after;
+    }
+    Ok(trees)
 }
 
-fn both(
+/// Pushes the first revision of the text, which begins at this line: the line and the text after
+/// it. A change that doesn't fit stands before the fault of a later item.
+fn push_revision<'a>(
     alloc: Global,
-    zeroth: FlatRevision,
-    first: FlatRevision,
-) -> Result<Vec<FlatRevision>, NoMemory>
-    ensures { IfOk result (λ both. both.items ≡ zeroth ∷ first ∷ []) }
+    trees: &mut Trees,
+    line: u32,
+    text: &'a [u8],
+) -> Result<(u32, &'a [u8]), ScriptFault>
+    requires room { line + length text.now ≤ 4294967295 }
+    requires few { length trees.old.revisions ≤ 2000000000 }
+    ensures value { GivesBy (λ x. (revisions_of trees.new, x.0, x.1.now)) wants_memory result (next_from (revisions_of trees.old) line text.now) }
+    ensures name { OnOk result (trees.new.name ≡ trees.old.name) }
+    ensures uuid { OnOk result (trees.new.uuid ≡ trees.old.uuid) }
+    ensures more { OnOk result (length trees.new.revisions ≡ length trees.old.revisions + 1) }
+    ensures room { IfOk result (λ x. x.0 + length x.1.now ≤ line + length text.now) }
+    ensures shorter { IfOk result (λ x. length x.1.now < length text.now) }
 {
-    let mut both = Vec::new(alloc);
-    both.push(zeroth)?;
-    both.push(first)?;
-    Ok(both)
+    let number = next_number(trees);
+    let (moment, author, rest) = match revision_head(number, text) {
+        Ok(head) => head,
+        Err(fault) => return Err(fault.at(line)),
+    };
+    let begins = line_after(line, text, rest);
+    let mut told = Told::new(alloc);
+    let read = read_items(alloc, number, &mut told, begins, rest);
+    let author = Bytes::of(alloc, author)?;
+    let (next, after) = match read {
+        Ok(after) => after,
+        Err(fault) => return Err(first_fault(trees, told, author, moment, fault)),
+    };
+    let ready = prepare_told(trees, told, author, moment)?;
+    trees.push_ready(ready);
+    Ok((next, after))
 }
 
-/// Revision 0: the root alone.
-fn zeroth_revision(alloc: Global, commit: Commit) -> Result<FlatRevision, NoMemory>
-    ensures { IfOk result (λ r. r ≡ revision_with commit (root_place ∷ [])) }
+/// The first fault of a revision whose items told so much before this one: a change that doesn't
+/// fit, or this one.
+fn first_fault(
+    trees: &mut Trees,
+    told: Told,
+    author: Bytes,
+    moment: Moment,
+    fault: ScriptFault,
+) -> ScriptFault
+    requires changes { MatchBool (wants_memory fault) ⊤ (length told.changes ≤ 4294967295) }
+    requires few { length trees.old.revisions ≤ 2000000000 }
+    ensures { FirstFault (at_change told.lines (pushed (revisions_of trees.old) (commit_of author moment told))) fault result }
 {
-    let places = root_places(alloc)?;
-    Ok(revision_of(commit, places))
-}
-
-/// Revision 1: the changes of its commit, done to the root.
-fn first_revision(alloc: Global, commit: Commit) -> Result<FlatRevision, ScriptFault>
-    ensures { Builds commit result }
-{
-    let mut places = root_places(alloc)?;
-    let Commit {
-        author,
-        moment,
-        props,
-        changes,
-    } = commit;
-    grow(alloc, &mut places, changes.into_vec(), revision(1))?;
-    Ok(FlatRevision {
-        author,
-        moment,
-        props,
-        places: List::of(places),
-    })
-}
-
-fn revision_of(commit: Commit, places: Vec<Place>) -> FlatRevision
-    ensures { result ≡ revision_with commit places.items }
-{
-    FlatRevision {
-        author: commit.author,
-        moment: commit.moment,
-        props: commit.props,
-        places: List::of(places),
+    match fault {
+        ScriptFault::NoMemory => ScriptFault::NoMemory,
+        ScriptFault::BadScript { line } => match prepare_told(trees, told, author, moment) {
+            Ok(_) => ScriptFault::BadScript { line },
+            Err(unfit) => unfit,
+        },
     }
 }
 
-/// The places of revision 0.
-fn root_places(alloc: Global) -> Result<Vec<Place>, NoMemory>
-    ensures { IfOk result (λ places. places.items ≡ root_place ∷ []) }
+/// The number of the next revision.
+fn next_number(trees: &Trees) -> Rev
+    requires { length trees.now.revisions ≤ 2000000000 }
+    ensures { result ≡ length trees.now.revisions }
 {
-    let root = Place {
-        path: Path::root(alloc)?,
-        node: Node {
-            kind: Kind::Dir,
-            props: List::of(Vec::new(alloc)),
-            text: Bytes::from_vec(Vec::new(alloc)),
-            created: revision(0),
-        },
-        line: Line {
-            since: revision(0),
-            source: None,
-        },
-    };
-    let mut places = Vec::new(alloc);
-    places.push(root)?;
-    Ok(places)
+    match Rev::of(trees.youngest().get() + 1) {
+        Some(rev) => rev,
+        None => unreachable!(),
+    }
+}
+
+/// Prepares the commit that the items of a revision told, or names the line of the first change
+/// that doesn't fit.
+fn prepare_told(
+    trees: &mut Trees,
+    told: Told,
+    author: Bytes,
+    moment: Moment,
+) -> Result<Ready, ScriptFault>
+    requires changes { length told.changes ≤ 4294967295 }
+    requires few { length trees.old.revisions ≤ 2000000000 }
+    ensures kept { IsUnchanged trees.old trees.new }
+    ensures says { PreparesTold told.lines (commit_of author moment told) trees.old trees.new result }
+{
+    let (commit, lines) = told.into_commit(author, moment);
+    match trees.prepare(commit) {
+        Ok(ready) => Ok(ready),
+        Err(PushFault::Unfit { index }) => Err(ScriptFault::BadScript {
+            line: line_of(lines.as_slice(), index),
+        }),
+        Err(PushFault::FullRevisions) => Err(ScriptFault::NoMemory),
+        Err(PushFault::NoMemory) => Err(ScriptFault::NoMemory),
+    }
+}
+
+/// The line of the change of this number.
+fn line_of(lines: &[u32], index: u32) -> u32
+    ensures { result ≡ slice_index_or lines.now index 0 }
+{
+    match lines.get(index as usize) {
+        Some(line) => *line,
+        None => 0,
+    }
 }

@@ -1,11 +1,12 @@
 use crate::line::Line;
 use crate::node::Node;
+use crate::shared::Shared;
 use dsv_base::Path;
 
 /// A place of a revision's tree: a path, the node there, and where that began.
 #[derive(Debug, Drop)]
 pub struct Place {
     pub path: Path,
-    pub node: Node,
+    pub node: Shared<Node>,
     pub line: Line,
 }

@@ -1,11 +1,17 @@
+use crate::changed::Changed;
+use crate::commit::Commit;
+use crate::entry_list::EntryList;
 use crate::place::Place;
-use dsv_base::{Bytes, List, Moment, Prop};
+use crate::shared::Shared;
+use dsv_base::List;
 
-/// A revision: its record, and its tree as places in byte order of the path's text.
+/// A revision: its commit, what this changed, and its tree as places in byte order of the path's
+/// text.
 #[derive(Debug, Drop)]
 pub struct FlatRevision {
-    pub author: Bytes,
-    pub moment: Moment,
-    pub props: List<Prop>,
-    pub places: List<Place>,
+    pub commit: Commit,
+    pub changed: List<Changed>,
+    pub places: List<Shared<Place>>,
+    /// What stands in each of the places, in their order.
+    pub entries: List<EntryList>,
 }

@@ -5,13 +5,12 @@ use dsv_base::NoMemory;
 use std::alloc::{AllocError, AllocFailed};
 use thiserror::Error;
 
-/// Why a script is not taken.
+/// Why a script is not taken. Lines are counted from 1.
 #[derive(Clone, Copy, Debug, PartialEq, Eq, Error)]
 pub enum ScriptFault {
-    /// It is no script of the first form: revisions 0 and 1, of which the one has no items and the
-    /// other has `mkdir` and `put` items that fit.
-    #[error("not in the first form")]
-    NotFirst,
+    /// The first item, from the top, that is not in the grammar or doesn't fit begins at this line.
+    #[error("line {line}: not in the script's grammar, or it does not fit")]
+    BadScript { line: u32 },
     /// Want of memory.
     #[error("no memory")]
     NoMemory,

@@ -1,13 +1,13 @@
 ghost use Rattle.std.specs.Prelude.{◌≡◌};
 ghost use Rattle.std.specs.Option.{option_copied};
-ghost use Rattle.rev_trees.specs.Scripts.{is_uuid, is_uuid_group, after_uuid_group, is_uuid_digit};
+ghost use Rattle.rev_trees.specs.Uuids.{is_uuid, is_uuid_group, after_uuid_group, is_uuid_digit};
 ghost use Rattle.std.specs.List.{list_all};
 
 use dsv_base::cut_at;
 
 /// Whether it is 36 bytes: lower-case hexadecimal digits in groups of 8, 4, 4, 4 and 12, with `-`
 /// between.
-#[tactic(auto, unfolding(crate::specs::Scripts::is_uuid))]
+#[tactic(auto, unfolding(crate::specs::Uuids::is_uuid))]
 pub fn is_uuid_text(text: &[u8]) -> bool
     ensures { result ≡ is_uuid text.now }
 {

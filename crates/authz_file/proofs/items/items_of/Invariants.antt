@@ -1,8 +1,7 @@
 use Rattle.std.proofs.Common.{◌≡◌, ◌++◌, true}
 use Rattle.std.specs.Prelude.{option_copied, map}
 use Rattle.std.specs.List.{slice_split, list_all}
-use Rattle.dsv_base.specs.TextFiles.{left_size}
-use Rattle.authz_file.specs.Lines.{trimmed}
+use Rattle.dsv_base.specs.TextFiles.{left_size, trimmed}
 use Rattle.authz_file.specs.Words.{is_comma, is_word}
 use Rattle.authz_file.specs.Reading.{items_left}
 use Rattle.authz_file.proofs.items.items_of.Given as goal

@@ -1,6 +1,6 @@
-use Rattle.std.proofs.Common.{◌∙◌}
-use Rattle.rev_trees.proofs.Numbering.{places_in-or}
+use Rattle.std.proofs.Common.{◌∙◌, ap}
+use Rattle.rev_trees.specs.declared.revision.FlatRevision.{FlatRevision}
 use Rattle.rev_trees.proofs.trees.places_of.Goals as goal
 
 pub returns : goal.returns
-returns c = c.get.ensures ∙ places_in-or c.args.revisions.now c.args.rev c.index-revisions-rev.result c.requires
+returns c = c.get.ensures ∙ ap (λ (r : FlatRevision). r.places) c.revision_of.ensures

@@ -1,0 +1,5 @@
+pub mod Plain
+pub mod Written
+pub mod Drafts
+pub mod Namespaces
+pub mod Examples

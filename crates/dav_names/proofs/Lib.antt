@@ -1,0 +1,8 @@
+pub mod Components
+pub mod Decimals
+pub mod Ends
+pub mod Escapes
+pub mod Roots
+pub mod Rows
+pub mod Stubs
+pub mod WrittenRead

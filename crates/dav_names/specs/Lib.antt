@@ -1,0 +1,4 @@
+pub mod Escaped
+pub mod Targets
+pub mod Written
+pub mod Reading

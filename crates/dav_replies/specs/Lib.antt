@@ -1,0 +1,5 @@
+pub mod Tables
+pub mod Replies
+pub mod Laws
+pub mod Refusals
+pub mod Faults

@@ -1,0 +1,36 @@
+-- The bytes of a reply (RFC 9112, section 4).
+use Rattle.std.specs.Prelude.{ℕ, Bool, List, [], ◌++◌, length, ◌==◌, codes, unwrap_or, if◌then◌else◌}
+use Rattle.std.specs.List.{flat_map}
+use Rattle.std.specs.Fmt.{decimal}
+use Rattle.dsv_base.specs.declared.field.Field.{Field}
+use Rattle.dsv_base.specs.declared.reply.Reply.{Reply}
+use Rattle.dav_replies.specs.Tables.{reason_of}
+
+abbrev pub field_of : List ℕ → List ℕ → Field
+field_of name value = record { name = name; value = value }
+
+abbrev pub field_line : List ℕ → List ℕ → List ℕ
+field_line name value = name ++ codes ": " ++ value ++ codes "\r\n"
+
+abbrev pub field_text : Field → List ℕ
+field_text field = field_line field.name field.value
+
+abbrev pub status_line : ℕ → List ℕ
+status_line status = codes "HTTP/1.1 " ++ decimal status ++ codes " " ++ unwrap_or (reason_of status) [] ++ codes "\r\n"
+
+-- how long the content is, but with 204, which has none (RFC 9110, section 8.6)
+abbrev pub length_line : ℕ → ℕ → List ℕ
+length_line status size = if status == 204 then [] else field_line (codes "Content-Length") (decimal size)
+
+abbrev pub last_line : Bool → List ℕ
+last_line last = if last then field_line (codes "Connection") (codes "close") else []
+
+-- a reply's bytes: without its content where it answers a HEAD, and telling whether it is the connection's last one
+unfoldable pub reply_text : Reply → Bool → Bool → List ℕ
+reply_text reply head_only last =
+    status_line reply.status
+    ++ flat_map field_text reply.fields
+    ++ length_line reply.status (length reply.content)
+    ++ last_line last
+    ++ codes "\r\n"
+    ++ (if head_only then [] else reply.content)

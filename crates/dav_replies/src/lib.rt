@@ -1,0 +1,26 @@
+//! What davsvn answers: the refusals, and the bytes of replies (RFC 9110; RFC 9112, section 4;
+//! RFC 4918, section 16).
+#![tactic(auto)]
+
+mod allow_kind;
+mod detail;
+mod error_body;
+mod laws;
+mod no_memory;
+mod refusal;
+#[cfg(test)]
+mod refusal_tests;
+mod refusals;
+#[cfg(test)]
+mod reply_tests;
+mod tables;
+mod writing;
+
+pub use allow_kind::AllowKind;
+pub use dsv_base::{Field, Form, Reply};
+pub use laws::{codes_are_in_order, ending_codes, statuses_have_reasons};
+pub use no_memory::no_memory_bytes;
+pub use refusal::Refusal;
+pub use refusals::{refusal_bytes, refusal_reply};
+pub use tables::allow_list;
+pub use writing::reply_bytes;

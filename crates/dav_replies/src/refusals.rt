@@ -1,0 +1,74 @@
+ghost use Rattle.std.specs.Prelude.{◌≡◌, IsTrue, IfOk};
+ghost use Rattle.dav_replies.specs.Tables.{has_reason};
+ghost use Rattle.dav_replies.specs.Replies.{field_of};
+ghost use Rattle.dav_replies.specs.Refusals.{refusal_reply, refusal_bytes, own_fields};
+
+use crate::error_body::error_body;
+use crate::refusal::Refusal;
+use crate::tables::{allow_list, row_of};
+use crate::writing::reply_bytes;
+use dsv_base::{Bytes, Field, List, NoMemory, Reply};
+use std::alloc::Global;
+
+/// The reply that tells a refusal: its body is an error document with the code, the name and what the
+/// refusal names (RFC 4918, section 16). The one error is want of memory.
+#[tactic(auto, unfolding(crate::specs::Refusals::refusal_reply))]
+pub fn refusal_reply(alloc: Global, refusal: &Refusal) -> Result<Reply, NoMemory>
+    ensures value { IfOk result (λ reply. reply ≡ refusal_reply refusal.now) }
+    ensures reason { IfOk result (λ reply. IsTrue (has_reason reply.status)) }
+{
+    let mut fields = own_fields(alloc, refusal)?;
+    fields.push(field_of(alloc, b"Content-Type", b"text/xml; charset=\"utf-8\"")?)?;
+    let content = error_body(alloc, refusal)?;
+    Ok(Reply {
+        status: row_of(refusal).status,
+        fields: List::of(fields),
+        content,
+        has_content: true,
+    })
+}
+
+/// The fields that stand before Content-Type.
+fn own_fields(alloc: Global, refusal: &Refusal) -> Result<Vec<Field>, NoMemory>
+    ensures { IfOk result (λ fields. fields.items ≡ own_fields refusal.now) }
+{
+    let mut fields = Vec::new(alloc);
+    match refusal {
+        Refusal::NeedsLogin => fields.push(field_of(
+            alloc,
+            b"WWW-Authenticate",
+            b"Basic realm=\"davsvn\"",
+        )?)?,
+        Refusal::WrongMethod { allow } | Refusal::Exists { allow } => {
+            fields.push(field_of(alloc, b"Allow", allow_list(*allow))?)?
+        }
+        _ => {}
+    }
+    Ok(fields)
+}
+
+fn field_of(alloc: Global, name: &[u8], value: &[u8]) -> Result<Field, NoMemory>
+    ensures { IfOk result (λ field. field ≡ field_of name.now value.now) }
+{
+    Ok(Field {
+        name: Bytes::of(alloc, name)?,
+        value: Bytes::of(alloc, value)?,
+    })
+}
+
+/// The bytes of the reply that tells a refusal, to HEAD and on the connection's end as
+/// [`reply_bytes`] has them. A refusal that ends the connection always says so, and is always written
+/// with its content. The one error is want of memory.
+#[tactic(auto, unfolding(crate::specs::Refusals::refusal_bytes))]
+pub fn refusal_bytes(
+    alloc: Global,
+    refusal: &Refusal,
+    head_only: bool,
+    last: bool,
+) -> Result<Bytes, NoMemory>
+    ensures { IfOk result (λ bytes. bytes ≡ refusal_bytes refusal.now head_only last) }
+{
+    let closing = row_of(refusal).closing;
+    let reply = refusal_reply(alloc, refusal)?;
+    reply_bytes(alloc, &reply, head_only && !closing, last || closing)
+}

@@ -1,0 +1,10 @@
+use Rattle.std.proofs.Common.{rules}
+use borrow.Author.Tests.{tests}
+use Rattle.std.proofs.lemmas.Iterator.Search.{any_from_yields_List}
+use Rattle.std.proofs.lemmas.Iterator.Splits.{YieldsList-from_slice_split}
+use Rattle.http_front.specs.Connections.{is_close, is_comma}
+use Rattle.http_front.proofs.connection.has_close.Goals as goal
+
+-- the chain gives the words, and tests each
+pub returns : goal.returns
+returns c = any_from_yields_List is_close _ _ _ c.any.ensures.ran (YieldsList-from_slice_split _ is_comma c.args.value.now c.split.ensures.rest c.split.ensures.done c.split.ensures.closure (λ x b q k. search (rules, tests))) (λ x b q k. search (rules, tests))

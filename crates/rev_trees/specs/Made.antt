@@ -1,0 +1,32 @@
+-- The next revision, as it is made from those that are kept.
+use Rattle.std.specs.Prelude.{ℕ, ◌≡◌, ◌-◌, Result, Ok, Err, List, ⊤, length}
+use Rattle.rev_trees.specs.declared.commit.Commit.{Commit}
+use Rattle.rev_trees.specs.declared.push_fault.PushFault.{PushFault}
+use Rattle.rev_trees.specs.declared.push_fault.PushFault.TheVariants as faults
+use Rattle.rev_trees.specs.declared.revision.FlatRevision.{FlatRevision}
+use Rattle.rev_trees.specs.declared.unfit.Unfit.{Unfit}
+use Rattle.rev_trees.specs.Trees.{Tree}
+use Rattle.rev_trees.specs.Changes.{apply_from}
+use Rattle.rev_trees.specs.ChangedPaths.{changed_paths}
+use Rattle.rev_trees.specs.Flat.{tree_in}
+use Rattle.rev_trees.specs.Kept.{places_in, trees_in, IsFlat}
+use Rattle.rev_trees.specs.Listed.{IsListed}
+
+abbrev pub youngest_in : List FlatRevision → Tree
+youngest_in revisions = tree_in (places_in revisions (length revisions - 1))
+
+abbrev pub tree_made : List FlatRevision → Commit → Result Tree (ℕ × Unfit)
+tree_made revisions commit = apply_from 0 commit.changes (trees_in revisions) (youngest_in revisions) (length revisions)
+
+pub record IsMade (revisions : List FlatRevision) (commit : Commit) (revision : FlatRevision) : Type 0 where
+  pub commit_is : revision.commit ≡ commit
+  pub tree_is : tree_made revisions commit ≡ Ok (tree_in revision.places)
+  pub changed_is : revision.changed ≡ changed_paths commit.changes (youngest_in revisions) (tree_in revision.places)
+  pub flat : IsFlat revision.places
+  pub listed : IsListed (length revisions) revision.places revision.entries
+
+abbrev pub Makes : List FlatRevision → Commit → Result FlatRevision PushFault → Type 0
+Makes revisions commit (Ok revision) = IsMade revisions commit revision
+Makes revisions commit (Err (faults.Unfit index)) = (why : Unfit) × (tree_made revisions commit ≡ Err (index, why))
+Makes revisions commit (Err faults.FullRevisions) = ⊥
+Makes revisions commit (Err faults.NoMemory) = ⊤

@@ -1,0 +1,56 @@
+-- A revision that is ready to be pushed, and what the two steps of a push do.
+use Rattle.std.specs.Prelude.{ℕ, ◌≡◌, ◌≤◌, List, [], ◌∷◌, ◌++◌, Result, Ok, Err, length, map}
+use Rattle.rev_trees.specs.declared.changed.Changed.{Changed}
+use Rattle.rev_trees.specs.declared.commit.Commit.{Commit}
+use Rattle.rev_trees.specs.declared.push_fault.PushFault.{PushFault}
+use Rattle.rev_trees.specs.declared.push_fault.PushFault.TheVariants.{Unfit, FullRevisions, NoMemory}
+use Rattle.rev_trees.specs.declared.unfit.Unfit as unfit
+use Rattle.rev_trees.specs.Trees.{Tree, Revision}
+use Rattle.rev_trees.specs.ChangedPaths.{changed_paths}
+use Rattle.rev_trees.specs.Pushes.{youngest_tree, tree_after}
+use Rattle.rev_trees.specs.Forests.{ForestRevision, Forest, tree_of, without_numbers}
+
+-- the revision of this number
+pub record ReadyRevision : Type 0 where
+  pub number : ℕ
+  pub commit : Commit
+  pub changed : List Changed
+  pub tree : Tree
+
+-- it was prepared on the youngest revision of these trees, which have room for it
+pub record IsReadyOn (ready : ReadyRevision) (forest : Forest) : Type 0 where
+  pub next : ready.number ≡ length forest.revisions
+  pub roomy : 1 ≤ forest.room
+
+abbrev pub revisions_of : Forest → List Revision
+revisions_of forest = map without_numbers forest.revisions
+
+-- the trees are as they were, and have no less room: what was ready stays so
+pub record IsUnchanged (old : Forest) (new : Forest) : Type 0 where
+  pub name : new.name ≡ old.name
+  pub uuid : new.uuid ≡ old.uuid
+  pub revisions : new.revisions ≡ old.revisions
+  pub room : old.room ≤ new.room
+
+-- what is ready is the next revision of the commit
+pub record IsNext (revisions : List Revision) (commit : Commit) (ready : ReadyRevision) : Type 0 where
+  pub commit_is : ready.commit ≡ commit
+  pub tree_is : tree_after revisions commit ≡ Ok ready.tree
+  pub changed_is : ready.changed ≡ changed_paths commit.changes (youngest_tree revisions) ready.tree
+
+-- the next revision, or the first change that doesn't fit, or that there are no more numbers
+abbrev pub Prepares : Commit → Forest → Forest → Result ReadyRevision PushFault → Type 0
+Prepares commit old new (Ok ready) = (length old.revisions ≤ 2000000000) × IsReadyOn ready new × IsNext (revisions_of old) commit ready
+Prepares commit old new (Err (Unfit index)) = (length old.revisions ≤ 2000000000) × (why : unfit.Unfit) × (tree_after (revisions_of old) commit ≡ Err (index, why))
+Prepares commit old new (Err FullRevisions) = length old.revisions ≡ 2000000001
+Prepares commit old new (Err NoMemory) = length old.revisions ≤ 2000000000
+
+-- one revision more, and the others as they were
+pub record Pushes (ready : ReadyRevision) (old : Forest) (new : Forest) : Type 0 where
+  pub name : new.name ≡ old.name
+  pub uuid : new.uuid ≡ old.uuid
+  pub revision : ForestRevision
+  pub revisions : new.revisions ≡ old.revisions ++ revision ∷ []
+  pub commit : revision.commit ≡ ready.commit
+  pub changed : revision.changed ≡ ready.changed
+  pub tree : tree_of revision.places ≡ ready.tree
