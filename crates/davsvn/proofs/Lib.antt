@@ -1,6 +1,3 @@
 mod OptionWords
-mod Shown
-mod Listed
-mod Fields
-mod TooLong
 mod RunLemmas
+mod WholeRuns

@@ -3,17 +3,23 @@ use Rattle.std.proofs.Common.{◌≡◌, ◌↔◌, ◌⊎◌, ℕ, Bool, List, 
 use Rattle.std.specs.Prelude.{⊤}
 use Rattle.dsv_outside.specs.Causes.{HasCause, Rose}
 use Rattle.dsv_outside.proofs.Causes.{Rose-earlier}
-use Rattle.std.specs.Io.KnownBytes.{Keeps}
 use Rattle.authz_file.specs.declared.rules.Rules.{Rules}
 use Rattle.http_front.specs.declared.user.User.{User}
 use Rattle.rev_trees.specs.Trees.{Repository}
 use Rattle.davsvn.specs.declared.end.End.{End}
-use Rattle.davsvn.specs.declared.end.End.TheVariants.{Well, Usage, BadFile, ReadFault, WriteFault, FileFault, NoMemory, OtherRight, NotFirst}
+use Rattle.davsvn.specs.declared.end.End.TheVariants.{Well, Usage, BadFile, BrokeOff, ReadFault, WriteFault, FileFault, NoMemory, OtherRight}
 use Rattle.davsvn.specs.declared.unread.Unread.{Unread}
 use Rattle.davsvn.specs.declared.unread.Unread.TheVariants as unread
 use Rattle.davsvn.specs.Commands.{Command, Pipe, AccessOf, FileNames}
 use Rattle.davsvn.specs.Opening.{Contents, IsScript, AreRules, AreNoRules, AreUsers, AreNoUsers, ReadsFile, is_failed_read, end_of}
-use Rattle.davsvn.specs.Runs.{Opens, ServeSays, PipeSays, WorkSays}
+use Rattle.dav_serve.specs.Points.{Point}
+use Rattle.dsv_outside.specs.declared.serve_end.ServeEnd.{ServeEnd}
+use Rattle.dsv_outside.specs.declared.serve_end.ServeEnd.TheVariants as serve_end
+use Rattle.dav_machine.specs.Histories.{Entry}
+use Rattle.dav_machine.specs.States.{opening_state}
+use Rattle.dav_serve.specs.Serves.{Serves, is_read_fault, is_write_fault}
+use Rattle.davsvn.specs.Runs.{Opens, Served, PipeSays, WorkSays, point_after}
+use Rattle.davsvn.specs.Serving.{end_of_serving}
 use Rattle.davsvn.specs.Statuses.{number_of}
 
 -- the three readings one after another, none of which changes what the files hold
@@ -37,35 +43,37 @@ ended says name (unread.BadLine line) end (inl e) free cause = subst says (sym e
 ended says name unread.Failed end (inl e) free cause = subst says (sym e) cause
 ended says name unread.NoMemory end (inl e) free cause = subst says (sym e) free
 
-module _ (contents : Contents) (names : FileNames) (left old new : Option (List ℕ)) (over : Bool) (source_rose sink_rose files_rose : Type 0) where
-  pub served : (repository : Repository) (rules : Rules) (users : List User) (end : End) → Opens contents names repository rules users → ServeSays repository rules.list users left old new over source_rose sink_rose end → PipeSays contents names left old new over source_rose sink_rose files_rose end
-  served repository rules users Well opens s = (s.0, record { repository = repository; rules = rules; users = users; opens = opens; replied = s.1 }, s.2, s.3)
-  served repository rules users Usage opens s = absurd s
-  served repository rules users (BadFile name line) opens s = absurd s
-  served repository rules users ReadFault opens s = (s.0, s.1, (repository, rules, users, opens))
-  served repository rules users WriteFault opens s = (s.0, record { repository = repository; rules = rules; users = users; opens = opens; replied = s.1 }, s.2, s.3, s.4)
-  served repository rules users (FileFault name) opens s = absurd s
-  served repository rules users NoMemory opens s = s
-  served repository rules users OtherRight opens s = absurd s
-  served repository rules users NotFirst opens s = ((repository, rules, users, s.0, opens, s.1, s.2), s.3)
+-- what a connection that was served says of the run
+module _ (contents : Contents) (names : FileNames) (p q : Point) (over : Bool) (files_rose : Type 0) (first now sink_first sink_now : ℕ) where
+  served : (ended : ServeEnd) → Served contents names p q over ended → HasCause first now (is_read_fault ended) → HasCause sink_first sink_now (is_write_fault ended) → PipeSays contents names p q over (Rose first now) (Rose sink_first sink_now) files_rose (end_of_serving ended)
+  served serve_end.Ended s read written = inl s
+  served serve_end.Closed s read written = inr s
+  served serve_end.BrokeOff s read written = s
+  served serve_end.ReadFault s read written = (read.rose, s)
+  served serve_end.WriteFault s read written = (written.rose, s)
+  served serve_end.NoMemory s read written = inr s
+
+  pub connection_served : (repository : Repository) (rules : Rules) (users : List User) → Opens contents names repository rules users → (history : List Entry) (ended : ServeEnd) → Serves (opening_state repository rules.list) 0 users p (point_after history q) over ended → HasCause first now (is_read_fault ended) → HasCause sink_first sink_now (is_write_fault ended) → PipeSays contents names p q over (Rose first now) (Rose sink_first sink_now) files_rose (end_of_serving ended)
+  connection_served repository rules users opens history ended serves read written =
+      served ended (record { repository = repository; rules = rules; users = users; opens = opens; history = history; serves = serves }) read written
 
 -- a rules file or a users file that isn't known, after a script that is
-module _ (contents then : Contents) (names : FileNames) (left old new : Option (List ℕ)) (over : Bool) (source_rose sink_rose : Type 0) (first before now : ℕ) (repository : Repository) (script : IsScript contents names.script repository) (same : then ≡ contents) (until : first ≤ before) where
-  rules_unread : (why : Unread) → ReadsFile {X = Rules} (AreRules then names.rules) (AreNoRules then names.rules) (Err why) → HasCause before now (is_failed_read {X = Rules} (Err why)) → Keeps old new → OnUnread (PipeSays contents names left old new over source_rose sink_rose (Rose first now)) names.rules why
+module _ (contents then : Contents) (names : FileNames) (p q : Point) (over : Bool) (source_rose sink_rose : Type 0) (first before now : ℕ) (repository : Repository) (script : IsScript contents names.script repository) (same : then ≡ contents) (until : first ≤ before) where
+  rules_unread : (why : Unread) → ReadsFile {X = Rules} (AreRules then names.rules) (AreNoRules then names.rules) (Err why) → HasCause before now (is_failed_read {X = Rules} (Err why)) → q ≡ p → OnUnread (PipeSays contents names p q over source_rose sink_rose (Rose first now)) names.rules why
   rules_unread (unread.BadLine line) bytes cause kept = (inr (inl (repository, script, refl, subst (λ (k : Contents). AreNoRules k names.rules line) same bytes)), kept)
   rules_unread unread.Failed bytes cause kept = (inr (inl (repository, script, refl)), Rose-earlier first before now until cause.rose, kept)
   rules_unread unread.NoMemory bytes cause kept = tt
 
-  users_unread : (rules : Rules) → AreRules contents names.rules rules → (why : Unread) → ReadsFile {X = List User} (AreUsers then names.users) (AreNoUsers then names.users) (Err why) → HasCause before now (is_failed_read {X = List User} (Err why)) → Keeps old new → OnUnread (PipeSays contents names left old new over source_rose sink_rose (Rose first now)) names.users why
+  users_unread : (rules : Rules) → AreRules contents names.rules rules → (why : Unread) → ReadsFile {X = List User} (AreUsers then names.users) (AreNoUsers then names.users) (Err why) → HasCause before now (is_failed_read {X = List User} (Err why)) → q ≡ p → OnUnread (PipeSays contents names p q over source_rose sink_rose (Rose first now)) names.users why
   users_unread rules rules_file (unread.BadLine line) bytes cause kept = (inr (inr (repository, rules, script, rules_file, refl, subst (λ (k : Contents). AreNoUsers k names.users line) same bytes)), kept)
   users_unread rules rules_file unread.Failed bytes cause kept = (inr (inr (repository, rules, script, rules_file, refl)), Rose-earlier first before now until cause.rose, kept)
   users_unread rules rules_file unread.NoMemory bytes cause kept = tt
 
-  pub rules_ended : (why : Unread) (end : End) → ReadsFile {X = Rules} (AreRules then names.rules) (AreNoRules then names.rules) (Err why) → HasCause before now (is_failed_read {X = Rules} (Err why)) → Keeps old new → (end ≡ end_of names.rules why) ⊎ (end ≡ NoMemory) → PipeSays contents names left old new over source_rose sink_rose (Rose first now) end
-  rules_ended why end bytes cause kept is = ended (PipeSays contents names left old new over source_rose sink_rose (Rose first now)) names.rules why end is kept (rules_unread why bytes cause kept)
+  pub rules_ended : (why : Unread) (end : End) → ReadsFile {X = Rules} (AreRules then names.rules) (AreNoRules then names.rules) (Err why) → HasCause before now (is_failed_read {X = Rules} (Err why)) → q ≡ p → (end ≡ end_of names.rules why) ⊎ (end ≡ NoMemory) → PipeSays contents names p q over source_rose sink_rose (Rose first now) end
+  rules_ended why end bytes cause kept is = ended (PipeSays contents names p q over source_rose sink_rose (Rose first now)) names.rules why end is (inl kept) (rules_unread why bytes cause kept)
 
-  pub users_ended : (rules : Rules) → AreRules contents names.rules rules → (why : Unread) (end : End) → ReadsFile {X = List User} (AreUsers then names.users) (AreNoUsers then names.users) (Err why) → HasCause before now (is_failed_read {X = List User} (Err why)) → Keeps old new → (end ≡ end_of names.users why) ⊎ (end ≡ NoMemory) → PipeSays contents names left old new over source_rose sink_rose (Rose first now) end
-  users_ended rules rules_file why end bytes cause kept is = ended (PipeSays contents names left old new over source_rose sink_rose (Rose first now)) names.users why end is kept (users_unread rules rules_file why bytes cause kept)
+  pub users_ended : (rules : Rules) → AreRules contents names.rules rules → (why : Unread) (end : End) → ReadsFile {X = List User} (AreUsers then names.users) (AreNoUsers then names.users) (Err why) → HasCause before now (is_failed_read {X = List User} (Err why)) → q ≡ p → (end ≡ end_of names.users why) ⊎ (end ≡ NoMemory) → PipeSays contents names p q over source_rose sink_rose (Rose first now) end
+  users_ended rules rules_file why end bytes cause kept is = ended (PipeSays contents names p q over source_rose sink_rose (Rose first now)) names.users why end is (inl kept) (users_unread rules rules_file why bytes cause kept)
 
 is_usage : (end : End) → number_of end ≡ 1 → end ≡ Usage
 is_usage Well n = absurd (cc)
@@ -76,11 +84,11 @@ is_usage WriteFault n = absurd (cc)
 is_usage (FileFault name) n = absurd (cc)
 is_usage NoMemory n = absurd (cc)
 is_usage OtherRight n = absurd (cc)
-is_usage NotFirst n = absurd (cc)
+is_usage BrokeOff n = absurd (cc)
 
-module _ (contents : Contents) (left old new : Option (List ℕ)) (over : Bool) (source_rose sink_rose files_rose : Type 0) where
+module _ (contents : Contents) (p q : Point) (over : Bool) (source_rose sink_rose files_rose : Type 0) where
   abbrev Says : Option Command → End → Type 0
-  Says words end = WorkSays words contents left old new over source_rose sink_rose files_rose end
+  Says words end = WorkSays words contents p q over source_rose sink_rose files_rose end
 
   usage_words : (words : Option Command) → Says words Usage → words ≡ None
   usage_words None s = refl

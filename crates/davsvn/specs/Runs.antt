@@ -1,32 +1,29 @@
 -- What a run does, by what it is given.
-use Rattle.std.specs.Prelude.{ℕ, ◌≡◌, ◌≤◌, ◌⊎◌, Bool, true, false, List, take, length, Option, None, Some}
+use Rattle.std.specs.Prelude.{ℕ, ◌≡◌, ◌≤◌, ◌⊎◌, Bool, true, false, List, [], take, length, Option, None, Some}
 use Rattle.std.specs.Io.KnownBytes.{Appends, Keeps}
 use Rattle.authz_file.specs.declared.right.Right.{Right}
-use Rattle.authz_file.specs.declared.rule.Rule.{Rule}
 use Rattle.authz_file.specs.declared.rules.Rules.{Rules}
-use Rattle.http_front.specs.declared.request.Request as request
+use Rattle.dav_machine.specs.Histories.{Entry}
+use Rattle.dav_machine.specs.States.{opening_state}
+use Rattle.dav_serve.specs.Points.{Point}
+use Rattle.dav_serve.specs.Serves.{Serves}
+use Rattle.dsv_outside.specs.declared.serve_end.ServeEnd.{ServeEnd}
+use Rattle.dsv_outside.specs.declared.serve_end.ServeEnd.TheVariants as serve_end
 use Rattle.http_front.specs.declared.user.User.{User}
-use Rattle.http_front.specs.Messages.{IsFirstMessage}
 use Rattle.rev_trees.specs.Trees.{Repository}
 use Rattle.davsvn.specs.declared.end.End.{End}
 use Rattle.davsvn.specs.declared.end.End.TheVariants as end
-use Rattle.dsv_base.specs.declared.reply.Reply.{Reply}
 use Rattle.davsvn.specs.Asking.{right_asked, right_line, is_expected}
 use Rattle.davsvn.specs.Commands.{Command, Pipe, AccessOf, FileNames, Question}
-use Rattle.davsvn.specs.Inputs.{IsInput, IsNoMessage}
 use Rattle.davsvn.specs.Opening.{Contents, IsScript, IsNoScript, AreRules, AreNoRules, AreUsers, AreNoUsers}
-use Rattle.davsvn.specs.ReadReplies.{read_reply, viewer, is_head}
-use Rattle.dav_replies.specs.Replies.{reply_text}
-use Rattle.davsvn.specs.States.{opening_state}
-use Rattle.davsvn.specs.Views.{view_of}
 
--- the reply to a request, over what the state of the script and the rules shows to who sent it
-abbrev pub reply_to : Repository → List Rule → request.Request → Reply
-reply_to repository rules r = read_reply (view_of (opening_state repository rules) (viewer r.login)) r
+-- what the source has left, what the sink has taken, and the clock's readings, before there is a history
+abbrev pub point : Option (List ℕ) → Option (List ℕ) → Option (List ℕ) → Point
+point left taken readings = record { history = []; left = left; taken = taken; readings = readings }
 
--- .. and the bytes that it is written as
-abbrev pub output_of : Repository → List Rule → request.Request → List ℕ
-output_of repository rules r = reply_text (reply_to repository rules r) (is_head r) r.last
+-- .. after this history
+abbrev pub point_after : List Entry → Point → Point
+point_after history p = record p { history = history }
 
 -- ---- `pipe`
 
@@ -40,25 +37,15 @@ pub record Opens (contents : Contents) (names : FileNames) (repository : Reposit
 abbrev pub AreOpen : Contents → FileNames → Type 0
 AreOpen contents names = (repository : Repository) × (rules : Rules) × (users : List User) × Opens contents names repository rules users
 
--- the output is the bytes of the reply to the one request of the input
-pub record Replied (repository : Repository) (rules : List Rule) (users : List User) (left : Option (List ℕ)) (output : List ℕ) : Type 0 where
-  pub input : List ℕ
-  pub asked : request.Request
-  pub is_input : IsInput left input
-  pub message : IsFirstMessage users input asked
-  pub written : output ≡ output_of repository rules asked
-
--- .. over what the three files give
-pub record Answered (contents : Contents) (names : FileNames) (left : Option (List ℕ)) (output : List ℕ) : Type 0 where
+-- a connection was served between these two points, as the one pass of a machine that opens on what the three files give,
+-- and ended so
+pub record Served (contents : Contents) (names : FileNames) (p q : Point) (over : Bool) (ended : ServeEnd) : Type 0 where
   pub repository : Repository
   pub rules : Rules
   pub users : List User
   pub opens : Opens contents names repository rules users
-  pub replied : Replied repository rules.list users left output
-
--- the three files are of their forms, and the input is no message in the first form
-abbrev pub OutOfForm : Contents → FileNames → Option (List ℕ) → Type 0
-OutOfForm contents names left = (repository : Repository) × (rules : Rules) × (users : List User) × (input : List ℕ) × Opens contents names repository rules users × IsInput left input × IsNoMessage users input
+  pub history : List Entry
+  pub serves : Serves (opening_state repository rules.list) 0 users p (point_after history q) over ended
 
 -- the file of this name is the first that breaks its grammar, at this line; those before it are of their forms
 abbrev pub IsBadFile : Contents → FileNames → List ℕ → ℕ → Type 0
@@ -78,33 +65,17 @@ IsNextFile contents names name =
 abbrev pub TookFront : Option (List ℕ) → Option (List ℕ) → List ℕ → Type 0
 TookFront old new output = (n : ℕ) × (n ≤ length output) × Appends old new (take n output)
 
--- what putting the output says of its end
-abbrev pub SendSays : Option (List ℕ) → Option (List ℕ) → List ℕ → Type 0 → End → Type 0
-SendSays old new output sink_rose end.Well = Appends old new output
-SendSays old new output sink_rose end.WriteFault = TookFront old new output × sink_rose
-SendSays old new output sink_rose end.NoMemory = Keeps old new
-SendSays old new output sink_rose _ = ⊥
-
--- what serving the one request says of its end: the sink's bytes before and after, whether the input
--- ended, and whether the counts of source and sink rose
-abbrev pub ServeSays : Repository → List Rule → List User → Option (List ℕ) → Option (List ℕ) → Option (List ℕ) → Bool → Type 0 → Type 0 → End → Type 0
-ServeSays repository rules users left old new over source_rose sink_rose end.Well = (output : List ℕ) × Replied repository rules users left output × Appends old new output × (over ≡ true)
-ServeSays repository rules users left old new over source_rose sink_rose end.NotFirst = (input : List ℕ) × IsInput left input × IsNoMessage users input × Keeps old new
-ServeSays repository rules users left old new over source_rose sink_rose end.ReadFault = source_rose × Keeps old new
-ServeSays repository rules users left old new over source_rose sink_rose end.WriteFault = (output : List ℕ) × Replied repository rules users left output × TookFront old new output × sink_rose × (over ≡ true)
-ServeSays repository rules users left old new over source_rose sink_rose end.NoMemory = Keeps old new
-ServeSays repository rules users left old new over source_rose sink_rose _ = ⊥
-
--- the same of a whole run of `pipe`
-abbrev pub PipeSays : Contents → FileNames → Option (List ℕ) → Option (List ℕ) → Option (List ℕ) → Bool → Type 0 → Type 0 → Type 0 → End → Type 0
-PipeSays contents names left old new over source_rose sink_rose files_rose end.Well = (output : List ℕ) × Answered contents names left output × Appends old new output × (over ≡ true)
-PipeSays contents names left old new over source_rose sink_rose files_rose end.NotFirst = OutOfForm contents names left × Keeps old new
-PipeSays contents names left old new over source_rose sink_rose files_rose (end.BadFile name line) = IsBadFile contents names name line × Keeps old new
-PipeSays contents names left old new over source_rose sink_rose files_rose end.ReadFault = source_rose × Keeps old new × AreOpen contents names
-PipeSays contents names left old new over source_rose sink_rose files_rose end.WriteFault = (output : List ℕ) × Answered contents names left output × TookFront old new output × sink_rose × (over ≡ true)
-PipeSays contents names left old new over source_rose sink_rose files_rose (end.FileFault name) = IsNextFile contents names name × files_rose × Keeps old new
-PipeSays contents names left old new over source_rose sink_rose files_rose end.NoMemory = Keeps old new
-PipeSays contents names left old new over source_rose sink_rose files_rose _ = ⊥
+-- what a run of `pipe` says of its end: what the world tells before and after, whether the source is over, and whether the
+-- counts of source, sink and files rose
+abbrev pub PipeSays : Contents → FileNames → Point → Point → Bool → Type 0 → Type 0 → Type 0 → End → Type 0
+PipeSays contents names p q over source_rose sink_rose files_rose end.Well = Served contents names p q over serve_end.Ended ⊎ Served contents names p q over serve_end.Closed
+PipeSays contents names p q over source_rose sink_rose files_rose end.BrokeOff = Served contents names p q over serve_end.BrokeOff
+PipeSays contents names p q over source_rose sink_rose files_rose end.ReadFault = source_rose × Served contents names p q over serve_end.ReadFault
+PipeSays contents names p q over source_rose sink_rose files_rose end.WriteFault = sink_rose × Served contents names p q over serve_end.WriteFault
+PipeSays contents names p q over source_rose sink_rose files_rose end.NoMemory = (q ≡ p) ⊎ Served contents names p q over serve_end.NoMemory
+PipeSays contents names p q over source_rose sink_rose files_rose (end.BadFile name line) = IsBadFile contents names name line × (q ≡ p)
+PipeSays contents names p q over source_rose sink_rose files_rose (end.FileFault name) = IsNextFile contents names name × files_rose × (q ≡ p)
+PipeSays contents names p q over source_rose sink_rose files_rose _ = ⊥
 
 -- ---- `accessof`
 
@@ -136,10 +107,10 @@ AskSays contents question path old new sink_rose files_rose _ = ⊥
 -- ---- all commands
 
 -- the same by the words, which may be those of no command
-abbrev pub WorkSays : Option Command → Contents → Option (List ℕ) → Option (List ℕ) → Option (List ℕ) → Bool → Type 0 → Type 0 → Type 0 → End → Type 0
-WorkSays None contents left old new over source_rose sink_rose files_rose given = (given ≡ end.Usage) × Keeps old new
-WorkSays (Some (Pipe names)) contents left old new over source_rose sink_rose files_rose given = PipeSays contents names left old new over source_rose sink_rose files_rose given
-WorkSays (Some (AccessOf question path)) contents left old new over source_rose sink_rose files_rose given = AskSays contents question path old new sink_rose files_rose given
+abbrev pub WorkSays : Option Command → Contents → Point → Point → Bool → Type 0 → Type 0 → Type 0 → End → Type 0
+WorkSays None contents p q over source_rose sink_rose files_rose given = (given ≡ end.Usage) × (q ≡ p)
+WorkSays (Some (Pipe names)) contents p q over source_rose sink_rose files_rose given = PipeSays contents names p q over source_rose sink_rose files_rose given
+WorkSays (Some (AccessOf question path)) contents p q over source_rose sink_rose files_rose given = AskSays contents question path p.taken q.taken sink_rose files_rose given
 
 -- the words are those of `pipe`, and this holds of its files
 abbrev pub ForPipe : Option Command → (FileNames → Type 0) → Type 0

@@ -1,7 +1,10 @@
 use crate::disk_files::DiskFiles;
 use crate::reading::Reading;
+use crate::script_keeper::ScriptKeeper;
+use crate::system_clock::SystemClock;
 use crate::writing::Writing;
-use dsv_outside::{FileGot, Files, Got, Put, Sink, Source};
+use dsv_base::{Bytes, Rev};
+use dsv_outside::{Clock, FileGot, Files, Got, Keeper, Put, Sink, Source};
 use std::fs;
 use std::process::Abort;
 use std::test::Fail;
@@ -73,5 +76,42 @@ fn files_of_the_system(rt: HostRuntime) -> Result<(), Fail> {
     fs::write(&rt, "file", "hello")?;
     check_files(&rt, rt.clone()?);
     fs::remove_file(&rt, "file")?;
+    Ok(())
+}
+
+/// The first microsecond of 2020.
+const YEAR_2020: u64 = 1_577_836_800_000_000;
+
+#[test]
+fn the_clock_of_the_system(rt: HostRuntime) -> Result<(), Fail> {
+    let mut clock = SystemClock::new(rt.clone()?);
+    assert!(rt; clock.now().get() > YEAR_2020);
+    Ok(())
+}
+
+/// Keeps two texts in the file `kept`, and one in a file that isn't there.
+fn check_keeper<R: Abort + std::rt::Files + AllocGlobal + Drop>(
+    rt: &R,
+    files: R,
+    others: R,
+) -> Result<(), Fail> {
+    let number = Rev::of(1).ok_or("a revision")?;
+    let name = Bytes::of(rt.alloc(), b"kept").ok().ok_or("no memory")?;
+    let mut keeper = ScriptKeeper::new(files, name);
+    for text in [b"one", b"two"] {
+        assert_eq!(rt; keeper.keep(number, text), Put::Done);
+    }
+    let name = Bytes::of(rt.alloc(), b"none").ok().ok_or("no memory")?;
+    let mut keeper = ScriptKeeper::new(others, name);
+    assert_eq!(rt; keeper.keep(number, b"three"), Put::Failed);
+    Ok(())
+}
+
+#[test]
+fn keeping_in_a_file(rt: HostRuntime) -> Result<(), Fail> {
+    fs::write(&rt, "kept", "zero ")?;
+    check_keeper(&rt, rt.clone()?, rt.clone()?)?;
+    assert_eq!(rt; fs::read_to_string(&rt, "kept")?.as_str(), "zero onetwo");
+    fs::remove_file(&rt, "kept")?;
     Ok(())
 }

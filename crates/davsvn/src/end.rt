@@ -9,6 +9,8 @@ pub enum End {
     Usage,
     /// The file of this name breaks its grammar, and this line first.
     BadFile(Bytes, u32),
+    /// The input ended inside a request.
+    BrokeOff,
     /// The source couldn't be read.
     ReadFault,
     /// The sink couldn't be written.
@@ -18,6 +20,4 @@ pub enum End {
     NoMemory,
     /// The right isn't the one that was expected.
     OtherRight,
-    /// The input isn't one message in the first form.
-    NotFirst,
 }

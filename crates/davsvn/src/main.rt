@@ -1,34 +1,27 @@
-//! davsvn: Subversion's HTTP server as a proved program. As yet it answers one reading
-//! request, and questions on the rights that a rules file gives.
+//! davsvn: Subversion's HTTP server as a proved program. As yet it serves one connection, whose
+//! reading requests it answers, and answers questions on the rights that a rules file gives.
 #![tactic(auto)]
 
 #[cfg(test)]
 mod adapter_tests;
-mod answer;
-mod asked;
 mod asking;
 mod command;
+#[cfg(test)]
+mod connection_tests;
 mod disk_files;
 mod end;
-mod filled;
-mod listing;
-mod media;
-#[cfg(test)]
-mod media_tests;
 mod opening;
 mod options;
 mod pipe;
 mod reading;
-mod receive;
-mod received;
-mod replies;
 #[cfg(test)]
 mod reply_tests;
 mod run;
 #[cfg(test)]
 mod run_tests;
-mod site;
+mod script_keeper;
 mod status;
+mod system_clock;
 mod unread;
 mod verb;
 mod words;
@@ -39,6 +32,9 @@ mod writing;
 use crate::disk_files::DiskFiles;
 use crate::reading::Reading;
 use crate::run::run;
+use crate::script_keeper::ScriptKeeper;
+use crate::system_clock::SystemClock;
+use crate::words::script_of;
 use crate::world::World;
 use crate::writing::Writing;
 use dsv_base::Bytes;
@@ -66,14 +62,25 @@ fn main(rt: HostRuntime) -> io::Result<ExitCode> {
         Err(error) if error.kind() == io::ErrorKind::InvalidData => Vec::new(rt.alloc()),
         Err(_) => return Ok(ExitCode::from(NO_MEMORY)),
     };
+    let Ok(script) = Bytes::of(rt.alloc(), script_of(words.as_slice()).unwrap_or(b"")) else {
+        return Ok(ExitCode::from(NO_MEMORY));
+    };
+    let Ok(clock) = rt.clone() else {
+        return Ok(ExitCode::from(NO_MEMORY));
+    };
     let Ok(files) = rt.clone() else {
+        return Ok(ExitCode::from(NO_MEMORY));
+    };
+    let Ok(keeper) = rt.clone() else {
         return Ok(ExitCode::from(NO_MEMORY));
     };
     let world = World {
         source: Reading::new(rt.stdin()),
         sink: Writing::new(rt.stdout()),
         errors: Writing::new(rt.stderr()),
+        clock: SystemClock::new(clock),
         files: DiskFiles::new(files),
+        keeper: ScriptKeeper::new(keeper, script),
     };
     let (status, _world) = run(rt.alloc(), words.as_slice(), world);
     Ok(ExitCode::from(status.0))

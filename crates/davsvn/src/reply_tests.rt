@@ -1,11 +1,11 @@
 use crate::run::run;
 use crate::world::World;
 use dsv_base::Bytes;
-use dsv_outside::{MemFiles, MemSink, MemSource};
+use dsv_outside::{MemClock, MemFiles, MemKeeper, MemSink, MemSource};
 use std::process::Abort;
 use std::test::Fail;
 
-const SCRIPT: &[u8] = b"davsvn-script 1
+pub const SCRIPT: &[u8] = b"davsvn-script 1
 repos demo
 uuid 3f2b1c00-0000-4000-8000-000000000001
 revision 0 1704067200000000 0
@@ -302,25 +302,51 @@ fn words_of<R: AllocGlobal>(rt: &R) -> Result<Vec<Bytes>, Fail> {
     Ok(words)
 }
 
-/// Sends the request to a server with this script, and compares the reply.
+/// How a run of `pipe` ends: what is put to the output, the status and its line.
+#[derive(Clone, Copy)]
+pub struct Ends<'a> {
+    pub output: &'a [u8],
+    pub status: u8,
+    pub line: &'a [u8],
+}
+
+/// Sends the bytes to a server with this script, and compares how the run ends.
+pub fn check_run<R: Abort + AllocGlobal>(
+    rt: &R,
+    script: &[u8],
+    input: &[u8],
+    ends: &Ends<'_>,
+) -> Result<(), Fail> {
+    let alloc = rt.alloc();
+    let words = words_of(rt)?;
+    let world = World {
+        source: MemSource::new(bytes_of(rt, input)?, Vec::new(alloc)),
+        sink: MemSink::new(bytes_of(rt, b"")?, Vec::new(alloc)),
+        errors: MemSink::new(bytes_of(rt, b"")?, Vec::new(alloc)),
+        clock: MemClock::new(Vec::new(alloc)),
+        files: files_of(rt, script)?,
+        keeper: MemKeeper::new(Vec::new(alloc), Vec::new(alloc)),
+    };
+    let (status, after) = run(alloc, words.as_slice(), world);
+    assert_eq!(rt; after.sink.taken(), ends.output, "to {input:?}");
+    assert_eq!(rt; after.errors.taken(), ends.line, "to {input:?}");
+    assert_eq!(rt; status.0, ends.status);
+    Ok(())
+}
+
+/// Sends one request to a server with this script, and compares the reply.
 fn check_reply<R: Abort + AllocGlobal>(
     rt: &R,
     script: &[u8],
     request: &[u8],
     output: &[u8],
 ) -> Result<(), Fail> {
-    let alloc = rt.alloc();
-    let words = words_of(rt)?;
-    let world = World {
-        source: MemSource::new(bytes_of(rt, request)?, Vec::new(alloc)),
-        sink: MemSink::new(bytes_of(rt, b"")?, Vec::new(alloc)),
-        errors: MemSink::new(bytes_of(rt, b"")?, Vec::new(alloc)),
-        files: files_of(rt, script)?,
+    let ends = Ends {
+        output,
+        status: 0,
+        line: b"",
     };
-    let (status, after) = run(alloc, words.as_slice(), world);
-    assert_eq!(rt; after.sink.taken(), output, "to {request:?}");
-    assert_eq!(rt; status.0, 0);
-    Ok(())
+    check_run(rt, script, request, &ends)
 }
 
 #[test]

@@ -1,7 +1,7 @@
 use crate::run::run;
 use crate::world::World;
 use dsv_base::Bytes;
-use dsv_outside::{MemFiles, MemSink, MemSource};
+use dsv_outside::{MemClock, MemFiles, MemKeeper, MemSink, MemSource};
 use std::process::Abort;
 use std::test::Fail;
 
@@ -68,13 +68,6 @@ const TEXT: Row = Row {
     status: 0,
     output: b"HTTP/1.1 200 OK\r\nContent-Type: text/plain\r\nContent-Length: 3\r\n\r\nabc",
     line: b"",
-};
-
-const NOT_FIRST: Row = Row {
-    status: 13,
-    output: b"",
-    line: b"davsvn: not in the first form\n",
-    ..TEXT
 };
 
 const UNAUTHORIZED: &[u8] = b"HTTP/1.1 401 Unauthorized\r
@@ -169,32 +162,35 @@ const GETS: [(&[u8], &[u8]); 11] = [
     ),
 ];
 
-const PIPE_ROWS: [Row; 16] = [
+const PIPE_ROWS: [Row; 15] = [
     TEXT,
     // the options in another order
     Row {
         words: b"pipe --users users --script script --rules rules",
         ..TEXT
     },
-    // a message with a body, and two of them
+    // no request
     Row {
-        request: b"GET / HTTP/1.1\r\nContent-Length: 1\r\n\r\nx",
-        ..NOT_FIRST
+        request: b"",
+        output: b"",
+        ..TEXT
     },
+    // a part of one
     Row {
-        request: b"GET / HTTP/1.1\r\n\r\nGET / HTTP/1.1\r\n\r\n",
-        ..NOT_FIRST
+        request: b"GET /svn/demo HT",
+        status: 3,
+        output: b"",
+        line: b"davsvn: input broke off\n",
+        ..TEXT
     },
     // no line, and the same status
     Row {
         errors_fail: &[0],
         line: b"",
-        request: b"",
-        ..NOT_FIRST
-    },
-    Row {
-        request: b"",
-        ..NOT_FIRST
+        request: b"GET /svn/demo HT",
+        status: 3,
+        output: b"",
+        ..TEXT
     },
     Row {
         script: Some(b"davsvn-script 1\nrepos ..\n"),
@@ -422,7 +418,7 @@ const ASK_ROWS: [Row; 5] = [
     },
 ];
 
-type MemWorld = World<MemSource, MemSink, MemSink, MemFiles>;
+type MemWorld = World<MemSource, MemSink, MemSink, MemClock, MemFiles, MemKeeper>;
 
 fn bytes_of<R: AllocGlobal>(rt: &R, text: &[u8]) -> Result<Bytes, Fail> {
     Ok(Bytes::of(rt.alloc(), text).ok().ok_or("no memory")?)
@@ -448,7 +444,9 @@ fn world_of<R: AllocGlobal>(rt: &R, row: &Row) -> Result<MemWorld, Fail> {
         source: MemSource::new(bytes_of(rt, row.request)?, row.source_fails.to_vec(alloc)?),
         sink: MemSink::new(bytes_of(rt, b"")?, row.sink_fails.to_vec(alloc)?),
         errors: MemSink::new(bytes_of(rt, b"")?, row.errors_fail.to_vec(alloc)?),
+        clock: MemClock::new(Vec::new(alloc)),
         files: files_of(rt, row)?,
+        keeper: MemKeeper::new(Vec::new(alloc), Vec::new(alloc)),
     })
 }
 

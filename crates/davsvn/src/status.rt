@@ -19,12 +19,12 @@ pub fn status_of(end: &End) -> Status
         End::Well => Status(0),
         End::Usage => Status(1),
         End::BadFile(..) => Status(2),
+        End::BrokeOff => Status(3),
         End::ReadFault => Status(4),
         End::WriteFault => Status(5),
         End::FileFault(_) => Status(6),
         End::NoMemory => Status(8),
         End::OtherRight => Status(9),
-        End::NotFirst => Status(13),
     }
 }
 
@@ -58,6 +58,7 @@ fn line_of(alloc: Global, end: &End) -> Result<Vec<u8>, NoMemory>
             line.extend_from_slice(number.as_bytes())?;
             line.extend_from_slice(b"\n")?;
         }
+        End::BrokeOff => line.extend_from_slice(b"davsvn: input broke off\n")?,
         End::ReadFault => line.extend_from_slice(b"davsvn: read fault\n")?,
         End::WriteFault => line.extend_from_slice(b"davsvn: write fault\n")?,
         End::FileFault(name) => {
@@ -66,7 +67,6 @@ fn line_of(alloc: Global, end: &End) -> Result<Vec<u8>, NoMemory>
             line.extend_from_slice(b"\n")?;
         }
         End::NoMemory => line.extend_from_slice(b"davsvn: no memory\n")?,
-        End::NotFirst => line.extend_from_slice(b"davsvn: not in the first form\n")?,
     }
     Ok(line)
 }

@@ -4,7 +4,7 @@ ghost use Rattle.dsv_base.specs.Names.{is_user_name, is_repository_name};
 ghost use Rattle.davsvn.specs.declared.verb.Verb.TheVariants as verbs;
 ghost use Rattle.davsvn.specs.Commands.{command, pipe_command, accessof_command, file_names_of, question_of, needed, optional, that, is_file_name, right_named};
 ghost use Rattle.davsvn.specs.Options.{read_options};
-ghost use Rattle.davsvn.specs.Words.{ReadsCommand, command_in, names_in, question_in};
+ghost use Rattle.davsvn.specs.Words.{ReadsCommand, command_in, names_in, question_in, script_of};
 
 use crate::command::{Command, FileNames, Question};
 use crate::options::{has_double, value_of, words_after};
@@ -31,6 +31,22 @@ pub fn read_words(alloc: Global, words: &[Bytes]) -> Result<Option<Command<'_>>,
         return accessof_command(alloc, words);
     }
     Ok(None)
+}
+
+/// The name of the script, where the words are those of `pipe`.
+pub fn script_of(words: &[Bytes]) -> Option<&[u8]>
+    ensures { option_copied result ≡ script_of words.now }
+{
+    let [verb, words @ ..] = words else {
+        return None;
+    };
+    if verb.get() != b"pipe".as_slice() {
+        return None;
+    }
+    match pipe_command(words) {
+        Some(Command::Pipe(names)) => Some(names.script),
+        _ => None,
+    }
 }
 
 fn pipe_command(words: &[Bytes]) -> Option<Command<'_>>

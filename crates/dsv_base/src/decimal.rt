@@ -12,11 +12,11 @@ pub fn read_decimal(text: &[u8], most: u64) -> Option<u64>
     if !is_decimal_text(text) {
         return None;
     }
-    value_of(text, most)
+    read_digits(text, most)
 }
 
-/// The number of the digits, where it is at most `most`.
-fn value_of(text: &[u8], most: u64) -> Option<u64>
+/// The number of the digits, which may have zeros in front, where it is at most `most`.
+pub fn read_digits(text: &[u8], most: u64) -> Option<u64>
     requires { list_all is_digit text.now ≡ true }
     ensures bound { IfSome result (λ n. n ≤ most) }
     ensures value { result ≡ (if nat_le (digits_after 0 text.now) most then Some (digits_after 0 text.now) else None) }

@@ -34,7 +34,7 @@ mod text_files;
 mod txn_name;
 
 pub use bytes::Bytes;
-pub use decimal::read_decimal;
+pub use decimal::{read_decimal, read_digits};
 pub use escapes::{push_xml_text, url_text, xml_plain, xml_text};
 pub use field::Field;
 pub use form::Form;

@@ -3,6 +3,7 @@ use Rattle.std.proofs.Common.{◌≡◌, [], ◌∷◌, None, Some, false, refl,
 use Rattle.dsv_outside.specs.Causes.{next_count, last_count}
 use Rattle.dsv_outside.specs.Calls.{no_calls, after_call, IsDue}
 use Rattle.dsv_outside.specs.FileTables.{file_named, text_named}
+use Rattle.dsv_outside.specs.Clocks.{moment_at, first_readings}
 use Rattle.dsv_outside.specs.Sources.{got_of}
 use Rattle.dsv_outside.specs.declared.got.Got.TheVariants.{Bytes, End}
 
@@ -38,3 +39,11 @@ second_call = (0, lit< tt, refl)
 
 stands : next_count last_count ≡ last_count
 stands = refl
+
+-- past its list a clock in memory answers the last moment again
+three_readings : first_readings (7 ∷ 5 ∷ []) 3 ≡ 7 ∷ 5 ∷ 5 ∷ []
+unfolding first_readings
+three_readings = refl
+
+no_moments : moment_at [] 4 ≡ 0
+no_moments = refl

@@ -7,3 +7,7 @@ pub mod SinkStates
 pub mod FileTables
 pub mod Reads
 pub mod FileStates
+pub mod Clocks
+pub mod ClockStates
+pub mod Keepers
+pub mod KeeperStates

@@ -1,5 +1,5 @@
 use super::*;
-use dsv_base::Bytes;
+use dsv_base::{Bytes, Moment, Rev};
 use std::process::Abort;
 use std::test::Fail;
 
@@ -106,5 +106,53 @@ fn files(rt: HostRuntime) -> Result<(), Fail> {
     let mut sure = SureFiles::new(contents(&rt)?);
     check_file(&rt, &mut sure, b"F", Some(b"one"));
     check_file(&rt, &mut sure, b"H", None);
+    Ok(())
+}
+
+fn check_reading<C: Clock, R: Abort>(rt: &R, clock: &mut C, micros: u64) {
+    assert_eq!(rt; clock.now().get(), micros);
+}
+
+#[test]
+fn clocks(rt: HostRuntime) -> Result<(), Fail> {
+    let mut moments = Vec::new(rt.alloc());
+    for micros in [7, 5] {
+        moments.push(Moment::of(micros).ok_or("no moment")?)?;
+    }
+    let mut clock = MemClock::new(moments);
+    for micros in [7, 5, 5, 5] {
+        check_reading(&rt, &mut clock, micros);
+    }
+    let mut empty = MemClock::new(Vec::new(rt.alloc()));
+    check_reading(&rt, &mut empty, 0);
+    Ok(())
+}
+
+fn check_keep<K: Keeper, R: Abort>(rt: &R, keeper: &mut K, number: Rev, text: &[u8], answer: Put) {
+    assert_eq!(rt; keeper.keep(number, text), answer);
+}
+
+fn check_pair<R: Abort>(rt: &R, pair: Option<&(Rev, Bytes)>, number: u32, text: &[u8]) {
+    match pair {
+        Some((known, kept)) => {
+            assert_eq!(rt; known.get(), number);
+            assert_eq!(rt; kept.get(), text);
+        }
+        None => assert!(rt; false),
+    }
+}
+
+#[test]
+fn keepers(rt: HostRuntime) -> Result<(), Fail> {
+    let third = Rev::of(3).ok_or("no revision")?;
+    let failing = Vec::from_slice(rt.alloc(), &[0])?;
+    let mut keeper = MemKeeper::new(Vec::new(rt.alloc()), failing);
+    check_keep(&rt, &mut keeper, third, b"lost", Put::Failed);
+    check_keep(&rt, &mut keeper, third, b"three", Put::Done);
+    assert_eq!(rt; keeper.kept().len(), 1);
+    check_pair(&rt, keeper.kept().first(), 3, b"three");
+    let mut sure = SureKeeper::new(Vec::new(rt.alloc()));
+    check_keep(&rt, &mut sure, third, b"three", Put::Done);
+    check_pair(&rt, sure.kept().first(), 3, b"three");
     Ok(())
 }

@@ -1,6 +1,14 @@
-pub mod AnswerLemmas
 pub mod Authorizations
-pub mod FirstMessages
-pub mod HeadSpans
 pub mod UserLines
 pub mod NamePlaces
+pub mod Rows
+pub mod ScanLemmas
+pub mod HeadLemmas
+pub mod ChunkLemmas
+pub mod ReadingLemmas
+pub mod SectionLemmas
+pub mod ContentLemmas
+pub mod AdvanceLemmas
+pub mod Laws
+pub mod KeptLemmas
+pub mod Cuttings

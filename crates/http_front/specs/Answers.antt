@@ -1,53 +1,60 @@
--- What the next answer says of the bytes at the front.
-use Rattle.std.specs.Prelude.{◌≡◌, ℕ, List}
+-- What the next answer says of a front.
+use Rattle.std.specs.Prelude.{◌≡◌, ℕ, ◌⊎◌, List, if◌then◌else◌}
+use Rattle.http_front.specs.declared.refusal.Refusal as refusal
+use Rattle.http_front.specs.declared.refusal.Refusal.TheVariants as refusals
 use Rattle.http_front.specs.declared.request.Request as request
 use Rattle.http_front.specs.declared.next.Next.{Next}
-use Rattle.http_front.specs.declared.next.Next.TheVariants.{Request, More, NotFirst, NoMemory}
+use Rattle.http_front.specs.declared.next.Next.TheVariants.{Request, More, BadMessage, HeadTooLarge, BodyTooLarge, NoMemory}
 use Rattle.http_front.specs.declared.user.User.{User}
-use Rattle.http_front.specs.Messages.{IsFirstMessage, IsNeverFirst, IsOpenHead}
+use Rattle.http_front.specs.declared.phase.Phase.{Phase}
+use Rattle.http_front.specs.declared.phase.Phase.TheVariants.{Open, Finished, Stopped}
+use Rattle.http_front.specs.Fronts.{FrontState, IsBounded, given, stopped}
+use Rattle.http_front.specs.Messages.{IsFirst}
+use Rattle.http_front.specs.Outcomes.{Whole, Part, Refused}
 
--- P of the request, if the answer is one
-abbrev pub IfRequest : Next → (request.Request → Type 0) → Type 0
-IfRequest (Request r) P = P r
-IfRequest More P = Unit {0}
-IfRequest NotFirst P = Unit {0}
-IfRequest NoMemory P = Unit {0}
+-- the phase after a request
+abbrev pub phase_after : request.Request → Phase
+phase_after r = if r.last then Finished else Open
 
--- P, if the answer is no request
-abbrev pub UnlessRequest : Next → Type 0 → Type 0
-UnlessRequest (Request r) P = Unit {0}
-UnlessRequest More P = P
-UnlessRequest NotFirst P = P
-UnlessRequest NoMemory P = P
+-- a request was given: it was the first of the rest
+pub record GivesRequest (users : List User) (old new : FrontState) (r : request.Request) : Type 0 where
+  pub size : ℕ
+  pub is_open : old.phase ≡ Open
+  pub first : IsFirst users old.number old.rest (Whole r size)
+  pub new_is : new ≡ given size (phase_after r) old
 
--- P, if more bytes are asked for
-abbrev pub OnMore : Next → Type 0 → Type 0
-OnMore (Request r) P = Unit {0}
-OnMore More P = P
-OnMore NotFirst P = Unit {0}
-OnMore NoMemory P = Unit {0}
+-- the rest is a part, so that more bytes are needed
+pub record Waits (users : List User) (s : FrontState) : Type 0 where
+  pub is_open : s.phase ≡ Open
+  pub first : IsFirst users s.number s.rest Part
+  pub bounded : IsBounded s
 
--- P, if the bytes are refused
-abbrev pub OnNotFirst : Next → Type 0 → Type 0
-OnNotFirst (Request r) P = Unit {0}
-OnNotFirst More P = Unit {0}
-OnNotFirst NotFirst P = P
-OnNotFirst NoMemory P = Unit {0}
+-- nothing comes before more bytes, or nothing comes any more
+pub record GivesMore (users : List User) (old new : FrontState) : Type 0 where
+  pub same : new ≡ old
+  pub why : Waits users old ⊎ (old.phase ≡ Finished)
 
--- the answer is this request, or want of memory
-abbrev pub IsRequestOrNoMemory : Next → request.Request → Type 0
-IsRequestOrNoMemory (Request r) right = r ≡ right
-IsRequestOrNoMemory More right = ⊥
-IsRequestOrNoMemory NotFirst right = ⊥
-IsRequestOrNoMemory NoMemory right = Unit {0}
+-- the first of the rest is refused
+pub record Refuses (users : List User) (s : FrontState) (why : refusal.Refusal) : Type 0 where
+  pub is_open : s.phase ≡ Open
+  pub first : IsFirst users s.number s.rest (Refused why)
 
--- a message in the first form is given out: it is neither refused nor waited for
-abbrev pub GivesFirst : List User → List ℕ → Next → Type 0
-GivesFirst users bytes next = (r : request.Request) → IsFirstMessage users bytes r → IsRequestOrNoMemory next r
+-- a message is refused, now or at an earlier call
+pub record GivesRefusal (users : List User) (old new : FrontState) (why : refusal.Refusal) : Type 0 where
+  pub stops : new ≡ stopped why old
+  pub when : Refuses users old why ⊎ (old.phase ≡ Stopped why)
 
--- what each answer says of the bytes
-abbrev pub Answers : List User → List ℕ → Next → Type 0
-Answers users bytes (Request r) = IsFirstMessage users bytes r
-Answers users bytes More = IsOpenHead bytes
-Answers users bytes NotFirst = IsNeverFirst users bytes
-Answers users bytes NoMemory = Unit {0}
+-- what each answer says
+abbrev pub NextSays : List User → FrontState → FrontState → Next → Type 0
+NextSays users old new (Request r) = GivesRequest users old new r
+NextSays users old new More = GivesMore users old new
+NextSays users old new (BadMessage at) = GivesRefusal users old new refusals.BadMessage × (at ≡ old.at)
+NextSays users old new HeadTooLarge = GivesRefusal users old new refusals.HeadTooLarge
+NextSays users old new BodyTooLarge = GivesRefusal users old new refusals.BodyTooLarge
+NextSays users old new NoMemory = new ≡ old
+
+-- the answer for a refusal of the message at an offset
+abbrev pub refusal_next : refusal.Refusal → ℕ → Next
+refusal_next refusals.BadMessage at = BadMessage at
+refusal_next refusals.HeadTooLarge at = HeadTooLarge
+refusal_next refusals.BodyTooLarge at = BodyTooLarge

@@ -1,76 +1,115 @@
--- The requests of HTTP/1.0 and HTTP/1.1 (RFC 9112) that are taken as yet: one head, without a body.
-use Rattle.std.specs.Prelude.{◌≡◌, ℕ, ◌<◌, ◌≤◌, Bool, false, ◌||◌, ◌==◌, List, [], ◌∷◌, ◌++◌, length, map, codes, IsFalse}
-use Rattle.httparse.specs.Grammar.{RequestHead, ReadsRequest, print_request, HasNoRequest, MayBecomeRequest}
+-- The requests of HTTP/1.0 and HTTP/1.1 (RFC 9112).
+use Rattle.std.specs.Prelude.{◌≡◌, ℕ, ◌+◌, ◌≤◌, ◌⊎◌, Bool, ◌||◌, List, [], ◌∷◌, length, map, take, drop, Option, None, Some, ◌==◌, nat_lt, nat_le, MatchBool, if◌then◌else◌}
+use Rattle.httparse.specs.Grammar.{RequestHead, ReadsRequest}
 use Rattle.dsv_base.specs.declared.field.Field.{Field}
+use Rattle.http_front.specs.declared.framing.Framing.{Framing}
+use Rattle.http_front.specs.declared.framing.Framing.TheVariants.{Sized, Chunked, TooLong, Unframed}
+use Rattle.http_front.specs.declared.refusal.Refusal.{Refusal}
+use Rattle.http_front.specs.declared.refusal.Refusal.TheVariants.{BadMessage, HeadTooLarge, BodyTooLarge}
 use Rattle.http_front.specs.declared.request.Request.{Request}
 use Rattle.http_front.specs.declared.user.User.{User}
+use Rattle.http_front.specs.Chunks.{IsBody}
 use Rattle.http_front.specs.Connections.{is_last}
-use Rattle.http_front.specs.Fields.{field_of_line, has_field}
+use Rattle.http_front.specs.Fields.{field_of_line}
+use Rattle.http_front.specs.Framings.{framing}
+use Rattle.http_front.specs.Limits.{most_head_bytes, most_header_lines, most_requests}
 use Rattle.http_front.specs.Logins.{login_of}
+use Rattle.http_front.specs.Outcomes.{Outcome, Whole, Part, Refused}
+use Rattle.http_front.specs.Sections.{head_length, header_lines}
 
--- the most bytes that a head may have
-abbrev pub most_head_bytes : ℕ
-most_head_bytes = 16384
+-- ---- heads
 
--- the most header lines that a head may have
-abbrev pub most_header_lines : ℕ
-most_header_lines = 100
+-- the bytes are this head and nothing else, with no more fields than a head may have
+pub record IsHead (bytes : List ℕ) (head : RequestHead) : Type 0 where
+  pub reads : ReadsRequest bytes head []
+  pub few : length head.fields ≤ most_header_lines
 
--- ---- the parts of a message
+-- the fields of a head, whose values have no blanks around them
+abbrev pub head_fields : RequestHead → List Field
+head_fields head = map field_of_line head.fields
 
--- the bytes are this head, within the limits and with no line end before it, and then the rest
-pub record BeginsWithHead (bytes : List ℕ) (head : RequestHead) (rest : List ℕ) : Type 0 where
-  pub reads : ReadsRequest bytes head rest
-  pub no_line_before : head.blank ≡ []
-  pub short : length (print_request head) ≤ most_head_bytes
-  pub few_lines : length head.fields ≤ most_header_lines
+-- ---- requests
 
--- the request has the method, the target and the fields of the head
-pub record SaysHead (head : RequestHead) (request : Request) : Type 0 where
-  pub method : request.method ≡ head.method
-  pub target : request.target ≡ head.target
-  pub fields : request.fields ≡ map field_of_line head.fields
+-- the request is the last of its connection: by its version or its fields, or since it is the last that a connection may have
+abbrev pub is_last_of : ℕ → ℕ → List Field → Bool
+is_last_of number minor fields = is_last minor fields || (number + 1 == most_requests)
 
--- the body that the fields announce: without Content-Length and Transfer-Encoding there is none (RFC 9112, section 6.3)
-abbrev pub TellsBody : List Field → List ℕ → Type 0
-TellsBody fields body = IsFalse (has_field (codes "content-length") fields) → IsFalse (has_field (codes "transfer-encoding") fields) → body ≡ []
+-- the request with this head and this body, after so many others, to a server with these users
+abbrev pub request_of : List User → ℕ → RequestHead → List ℕ → Request
+request_of users number head body = record {
+  method = head.method;
+  target = head.target;
+  fields = head_fields head;
+  login = login_of users (head_fields head);
+  body = body;
+  last = is_last_of number head.minor (head_fields head);
+}
 
--- what is taken as yet: a head alone, with nothing after it and without the fields that announce a body
-pub record TakenAsYet (rest : List ℕ) (fields : List Field) : Type 0 where
-  pub no_length : IsFalse (has_field (codes "content-length") fields)
-  pub no_coding : IsFalse (has_field (codes "transfer-encoding") fields)
-  pub nothing_after : rest ≡ []
+-- a request with a body of so many bytes, after a head of n
+abbrev pub sized_outcome : List User → ℕ → RequestHead → ℕ → ℕ → List ℕ → Outcome Request
+sized_outcome users number head n size after = if nat_le size (length after) then Whole (request_of users number head (take size after)) (n + size) else Part
 
--- ---- messages
+-- a request with a body by chunks, after a head of n
+abbrev pub chunked_outcome : List User → ℕ → RequestHead → ℕ → Outcome (List ℕ) → Outcome Request
+chunked_outcome users number head n (Whole body used) = Whole (request_of users number head body) (n + used)
+chunked_outcome users number head n Part = Part
+chunked_outcome users number head n (Refused why) = Refused why
 
--- the bytes are one message in the first form, and the request is what it says to a server with these users
-pub record IsFirstMessage (users : List User) (bytes : List ℕ) (request : Request) : Type 0 where
+-- what a head of n bytes and the bytes after it are
+abbrev pub FramingSays : List User → ℕ → RequestHead → ℕ → List ℕ → Framing → Outcome Request → Type 0
+FramingSays users number head n after (Sized size) outcome = outcome ≡ sized_outcome users number head n size after
+FramingSays users number head n after Chunked outcome = (body : Outcome (List ℕ)) × IsBody after body × (outcome ≡ chunked_outcome users number head n body)
+FramingSays users number head n after TooLong outcome = outcome ≡ Refused BodyTooLarge
+FramingSays users number head n after Unframed outcome = outcome ≡ Refused BadMessage
+
+-- the text of a head is one, and this follows from its fields
+pub record IsMessage (users : List User) (number : ℕ) (text after : List ℕ) (outcome : Outcome Request) : Type 0 where
   pub head : RequestHead
-  pub rest : List ℕ
-  pub begins : BeginsWithHead bytes head rest
-  pub says : SaysHead head request
-  pub login : request.login ≡ login_of users request.fields
-  pub body : TellsBody request.fields request.body
-  pub last : request.last ≡ is_last head.minor request.fields
-  pub as_yet : TakenAsYet rest request.fields
+  pub is_head : IsHead text head
+  pub says : FramingSays users number head (length text) after (framing (head_fields head)) outcome
 
--- no bytes can follow that make these a message in the first form
-abbrev pub IsNeverFirst : List User → List ℕ → Type 0
-IsNeverFirst users bytes = (more : List ℕ) (request : Request) → ¬ (IsFirstMessage users (bytes ++ more) request)
+-- the text is no head
+pub record IsNoHead (text : List ℕ) (outcome : Outcome Request) : Type 0 where
+  pub none : (head : RequestHead) → ¬ (IsHead text head)
+  pub is : outcome ≡ Refused BadMessage
 
--- the bytes begin with CR or LF
-abbrev pub begins_with_line_end : List ℕ → Bool
-begins_with_line_end [] = false
-begins_with_line_end (b ∷ bytes) = b == 13 || b == 10
+-- a head that isn't whole
+abbrev pub open_head : List ℕ → Outcome Request
+open_head bytes = if nat_lt (length bytes) most_head_bytes then Part else Refused HeadTooLarge
 
--- a head isn't whole yet: no line end stands before it, it has bytes left, and some bytes can follow
--- that make it a head, or its target is still being read
-pub record IsOpenHead (bytes : List ℕ) : Type 0 where
-  pub not_whole : HasNoRequest bytes
-  pub no_line_before : IsFalse (begins_with_line_end bytes)
-  pub short : length bytes < most_head_bytes
-  pub goes_on : MayBecomeRequest bytes
+-- what the bytes are, where their head ends after so many
+abbrev pub HeadSays : List User → ℕ → List ℕ → Option ℕ → Outcome Request → Type 0
+HeadSays users number bytes None outcome = outcome ≡ open_head bytes
+HeadSays users number bytes (Some n) outcome =
+    MatchBool (nat_lt most_header_lines (header_lines (take n bytes)))
+    (outcome ≡ Refused HeadTooLarge)
+    (IsMessage users number (take n bytes) (drop n bytes) outcome ⊎ IsNoHead (take n bytes) outcome)
 
--- a field is there that a message in the first form doesn't have
-abbrev pub has_unread_field : List Field → Bool
-has_unread_field fields = has_field (codes "content-length") fields || has_field (codes "transfer-encoding") fields
+-- what the bytes at the front of a connection are, after so many requests
+pub record IsFirst (users : List User) (number : ℕ) (bytes : List ℕ) (outcome : Outcome Request) : Type 0 where
+  pub says : HeadSays users number bytes (head_length (take most_head_bytes bytes)) outcome
+
+-- ---- connections
+
+-- how a connection's bytes end: after its last request; with a rest that is no whole message; or with a refusal of the message that begins at an offset
+pub data End : Type 0 where
+  LastGiven : End
+  Left : List ℕ → End
+  RefusedAt : Refusal → ℕ → End
+
+-- the end where no further request comes
+abbrev pub EndSays : List User → ℕ → ℕ → List ℕ → End → Type 0
+EndSays users number at bytes LastGiven = ⊥
+EndSays users number at bytes (Left rest) = IsFirst users number bytes Part × (rest ≡ bytes)
+EndSays users number at bytes (RefusedAt why offset) = IsFirst users number bytes (Refused why) × (offset ≡ at)
+
+-- after so many requests and bytes the bytes are these requests, one after another, and then come to this end
+abbrev pub MessagesFrom : List User → ℕ → ℕ → List ℕ → List Request → End → Type 0
+MessagesFrom users number at bytes [] end = EndSays users number at bytes end
+MessagesFrom users number at bytes (request ∷ requests) end =
+    (n : ℕ) × IsFirst users number bytes (Whole request n)
+    × MatchBool request.last ((requests ≡ []) × (end ≡ LastGiven)) (MessagesFrom users (number + 1) (at + n) (drop n bytes) requests end)
+
+-- the requests of a connection's bytes and how they end
+abbrev pub Messages : List User → List ℕ → List Request → End → Type 0
+Messages users bytes requests end = MessagesFrom users 0 0 bytes requests end

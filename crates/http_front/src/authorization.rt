@@ -3,8 +3,8 @@ ghost use Rattle.base64.specs.Engines.{standard};
 ghost use Rattle.base64.specs.GeneralPurpose.{decoded_of};
 ghost use Rattle.http_front.specs.Logins.{token_of, credentials_of, login_of, login_with};
 
+use crate::fields::{has_field, is_named};
 use crate::login::Login;
-use crate::message::{has_field, is_named};
 use crate::users::Users;
 use base64::DecodeAllocError;
 use base64::engine::general_purpose::STANDARD;

@@ -2,7 +2,7 @@ ghost use Rattle.std.specs.Prelude.{◌≡◌};
 ghost use Rattle.std.specs.List.{list_any, slice_split};
 ghost use Rattle.http_front.specs.Connections.{is_close, is_comma, is_last, says_close};
 
-use crate::message::is_named;
+use crate::fields::is_named;
 use dsv_base::{Field, trimmed};
 
 /// Whether the connection ends after a request of HTTP/1.`minor` with these fields (RFC 9112,

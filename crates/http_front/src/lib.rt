@@ -1,13 +1,31 @@
-//! HTTP/1.1 requests from bytes that come piece by piece, and the users file.
+//! HTTP/1.1 requests from bytes that come piece by piece, with their bodies, and the users file.
 #![tactic(auto)]
 
+mod advance;
+mod advancing;
 mod authorization;
+mod chunk_step;
+mod chunks;
 mod connection;
+mod data_end;
+mod fields;
+mod framing;
+mod framings;
 mod front;
+mod head;
+mod heads;
 mod login;
-mod message;
 mod next;
+mod phase;
+mod place;
+mod refusal;
 mod request;
+mod scan;
+mod section;
+mod size_line;
+mod size_lines;
+mod slices;
+mod stage;
 mod user;
 mod users;
 mod users_fault;

@@ -1,5 +1,5 @@
 -- What the number of a place gives of the entries, and that each place is found at its path.
-use Rattle.std.proofs.Common.{◌≡◌, ℕ, zero, suc, ◌+◌, ◌*◌, ◌/◌, ◌%◌, ◌<◌, ◌≤◌, Bool, true, false, T, cond, List, [], ◌∷◌, ◌++◌, Option, None, Some, refl, sym, ap, subst, ◌∙◌, length, get_or, arith}
+use Rattle.std.proofs.Common.{◌≡◌, ℕ, suc, ◌+◌, ◌*◌, ◌/◌, ◌%◌, ◌<◌, Bool, true, false, T, cond, List, [], ◌∷◌, Option, None, Some, refl, sym, ap, subst, ◌∙◌, length, get_or, arith}
 use Rattle.std.specs.Prelude.{IsTrue}
 use Rattle.std.specs.Option.{option_map}
 use Rattle.std.specs.List.{All}
@@ -18,10 +18,10 @@ use Rattle.rev_trees.specs.declared.place.Place.{Place}
 use Rattle.rev_trees.specs.declared.revision.FlatRevision.{FlatRevision}
 use Rattle.rev_trees.specs.Forests.{Numbered, Forest, places_at, place_at, id_at, node_at, IsId}
 use Rattle.rev_trees.specs.Entries.{entries_in, AreEntriesOf, IsSoundPlace, AreAlike, IsSound}
-use Rattle.rev_trees.specs.Flat.{node_of, tree_in, in_order}
+use Rattle.rev_trees.specs.Flat.{node_of}
 use Rattle.rev_trees.specs.Numbers.{numbered, numbered_from}
-use Rattle.rev_trees.specs.Listed.{has_path, IsListed}
-use Rattle.rev_trees.specs.Kept.{forest_of, places_in, lists_in, no_flat_revision, AreKept}
+use Rattle.rev_trees.specs.Listed.{has_path}
+use Rattle.rev_trees.specs.Kept.{forest_of, places_in, lists_in, AreKept}
 use Rattle.rev_trees.proofs.Numbering.{places-are, below-of, sorted-numbered}
 use Rattle.rev_trees.proofs.Listing.{length-numbered, numbered-at}
 use Rattle.rev_trees.proofs.PlacesFound.{nowhere}

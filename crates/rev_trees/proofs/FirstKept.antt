@@ -1,5 +1,12 @@
 -- The revisions that a repository begins with.
-use Rattle.std.proofs.Common.{◌≡◌, ℕ, zero, suc, ◌<◌, ◌≤◌, List, [], ◌∷◌, get_or, refl, sym, subst, arith}
+use Rattle.std.proofs.Common.{◌≡◌, ℕ, zero, suc, ◌<◌, Bool, true, false, cond, List, [], ◌∷◌, None, Some, length, get_or, refl, sym, ap, subst, arith}
+use Rattle.std.specs.Prelude.{is_some}
+use Rattle.std.specs.Ordering.{nat_cmp, eq_by_cmp}
+use Rattle.std.specs.Cmp.Lexicographic.{slice_cmp}
+use Rattle.rev_trees.specs.Trees.{at, is_dir}
+use Rattle.rev_trees.specs.Flat.{node_of, tree_in}
+use Rattle.rev_trees.specs.Formed.{has_ordered_props, IsFormed}
+use Rattle.rev_trees.proofs.Forming.{tied}
 use Rattle.dsv_base.specs.Paths.{parent_text, is_path, root_text}
 use Rattle.rev_trees.specs.declared.commit.Commit.{Commit}
 use Rattle.rev_trees.specs.declared.entry.Entry.{Entry}
@@ -28,12 +35,35 @@ root_listed = record {
     path zero d h = refl
     path (suc index) d h = absurd (omega arith)
 
+-- the root alone is a formed tree
+root_formed : IsFormed (tree_in (root_place ∷ []))
+unfolding is_path parent_text
+root_formed = record {
+  root = refl;
+  paths = λ path some. at_root path (eq_by_cmp (slice_cmp nat_cmp) path root_text) refl some;
+  parents = λ path parent some is. none path parent (eq_by_cmp (slice_cmp nat_cmp) path root_text) refl some is;
+  props = λ path. props (eq_by_cmp (slice_cmp nat_cmp) path root_text);
+}
+  where
+    at_root : (path : List ℕ) (b : Bool) → eq_by_cmp (slice_cmp nat_cmp) path root_text ≡ b → is_some (cond b (Some (node_of root_place)) None) ≡ true → is_path path ≡ true
+    at_root path true t some = ap is_path (tied path root_text t)
+    at_root path false t some = absurd (cc)
+
+    none : (path parent : List ℕ) (b : Bool) → eq_by_cmp (slice_cmp nat_cmp) path root_text ≡ b → is_some (cond b (Some (node_of root_place)) None) ≡ true → parent_text path ≡ Some parent → is_dir (at parent (tree_in (root_place ∷ []))) ≡ true
+    none path parent true t some is = absurd (let no : parent_text path ≡ None = ap parent_text (tied path root_text t) in cc (no, is))
+    none path parent false t some is = absurd (cc)
+
+    props : (b : Bool) → has_ordered_props (cond b (Some (node_of root_place)) None) ≡ true
+    props true = refl
+    props false = refl
+
 pub first_kept : (first : Commit) (rs : List FlatRevision) → rs ≡ record { commit = first; changed = []; places = root_place ∷ []; entries = [] ∷ [] } ∷ [] → AreKept rs
 first_kept first rs is = subst AreKept (sym is) (record {
   some = omega arith;
   few = omega arith;
   flat = λ rev. flat rev;
   listed = λ rev. listed rev;
+  formed = λ rev h. formed rev h;
 })
   where
     one : List FlatRevision
@@ -46,3 +76,7 @@ first_kept first rs is = subst AreKept (sym is) (record {
     listed : (rev : ℕ) → IsListed rev (places_in one rev) (lists_in one rev)
     listed zero = root_listed
     listed (suc rev) = none_listed (suc rev)
+
+    formed : (rev : ℕ) → rev < length one → IsFormed (tree_in (places_in one rev))
+    formed zero h = root_formed
+    formed (suc rev) h = absurd (omega arith)

@@ -19,7 +19,8 @@ use Rattle.rev_trees.specs.declared.script_fault.ScriptFault.{ScriptFault}
 use Rattle.rev_trees.specs.Steps.{ok_where, at_line, line_after, most_revision}
 use Rattle.rev_trees.specs.Items.{Told, item_from, item_after, may_follow, is_next_name, with_prop, with_change}
 use Rattle.rev_trees.specs.Scripts.{Items, items_from, next_item, and_others}
-use Rattle.rev_trees.specs.Written.{prop_text, change_text, is_tellable_prop, is_tellable_change, comes_before, names_rise}
+use Rattle.rev_trees.specs.PropertyNames.{comes_before, names_rise}
+use Rattle.rev_trees.specs.Written.{prop_text, change_text, is_tellable_prop, is_tellable_change}
 use Rattle.rev_trees.proofs.Spelled.{and_parts}
 use Rattle.rev_trees.proofs.TextsBack.{prop_item, change_item}
 

@@ -1,7 +1,7 @@
 -- The lists of entries beside the places of a revision.
-use Rattle.std.proofs.Common.{◌≡◌, ◌≢◌, ℕ, zero, suc, ◌+◌, ◌*◌, ◌<◌, ◌≤◌, Bool, true, false, T, List, [], ◌∷◌, ◌++◌, Option, None, Some, Result, Ok, Err, map, length, get_or, take, set, refl, sym, ap, subst, ◌∙◌, ◌⊎◌, inl, inr, arith}
-use Rattle.std.specs.Prelude.{option_to_list, OnOk, replicate, if◌then◌else◌}
-use Rattle.std.specs.List.{filter_map, cons_option, All}
+use Rattle.std.proofs.Common.{◌≡◌, ◌≢◌, ℕ, zero, suc, ◌+◌, ◌*◌, ◌<◌, ◌≤◌, true, false, T, List, [], ◌∷◌, ◌++◌, Option, None, Some, Result, Ok, Err, length, get_or, take, set, refl, sym, ap, subst, ◌∙◌, ◌⊎◌, inl, inr, arith}
+use Rattle.std.specs.Prelude.{option_to_list, OnOk, replicate}
+use Rattle.std.specs.List.{filter_map, cons_option}
 use Rattle.std.specs.Str.{bytes_eq}
 use Rattle.std.specs.Option.{option_map_or}
 use Rattle.std.specs.Ordering.{nat_cmp}
@@ -18,7 +18,7 @@ use Rattle.rev_trees.specs.declared.place.Place.{Place}
 use Rattle.rev_trees.specs.Trees.{TreeNode, at}
 use Rattle.rev_trees.specs.Forests.{Numbered}
 use Rattle.rev_trees.specs.Entries.{is_child, entry_in, entries_in}
-use Rattle.rev_trees.specs.Flat.{entry, tree_in, in_order, IsPlaceOf, IsGapFor}
+use Rattle.rev_trees.specs.Flat.{entry, tree_in, in_order}
 use Rattle.rev_trees.specs.Numbers.{numbered, numbered_from}
 use Rattle.rev_trees.specs.Listed.{has_path, IsListed, added, IsEntered}
 use Rattle.rev_trees.proofs.PlacesFound.{nowhere, length-tree_in, get_or-tree_in, get_or-any}

@@ -1,5 +1,5 @@
 -- Pushing a revision, as the kept revisions do it.
-use Rattle.std.proofs.Common.{◌≡◌, ℕ, zero, suc, ◌+◌, ◌-◌, ◌≤◌, List, [], ◌∷◌, ◌++◌, Result, Ok, Err, length, map, refl, sym, ap, subst, ◌∙◌, arith}
+use Rattle.std.proofs.Common.{◌≡◌, ℕ, zero, suc, ◌+◌, ◌-◌, ◌≤◌, ◌<◌, List, [], ◌∷◌, ◌++◌, Result, Ok, Err, length, map, refl, sym, ap, subst, ◌∙◌, arith}
 use Rattle.dsv_base.specs.Gives.{◌>>=◌}
 use Rattle.rev_trees.specs.declared.commit.Commit.{Commit}
 use Rattle.rev_trees.specs.declared.place.Place.{Place}
@@ -17,6 +17,7 @@ use Rattle.rev_trees.specs.Flat.{node_of, tree_in}
 use Rattle.rev_trees.specs.Kept.{lists_in, numbered_revision, revisions_from, forest_of, places_in, trees_in, ready_of, IsFlat, IsReady, AreKept}
 use Rattle.rev_trees.specs.Numbers.{numbered_from}
 use Rattle.rev_trees.specs.Listed.{IsListed}
+use Rattle.rev_trees.specs.Formed.{IsFormed}
 use Rattle.rev_trees.specs.Made.{youngest_in, tree_made, IsMade, Makes}
 use Rattle.rev_trees.proofs.Numbering.{length-of}
 use Rattle.rev_trees.proofs.Steps.{source_tree}
@@ -72,6 +73,12 @@ flat-push [] r h flat (suc rev) = record { short = omega arith; sorted = refl }
 flat-push (q ∷ rs) r h flat zero = h 0
 flat-push (q ∷ rs) r h flat (suc rev) = flat-push rs r (λ n. h (suc n)) flat rev
 
+formed-push : (rs : List FlatRevision) (r : FlatRevision) → ((rev : ℕ) → rev < length rs → IsFormed (tree_in (places_in rs rev))) → IsFormed (tree_in r.places) → (rev : ℕ) → rev < length rs + 1 → IsFormed (tree_in (places_in (rs ++ r ∷ []) rev))
+formed-push [] r h formed zero within = formed
+formed-push [] r h formed (suc rev) within = absurd (omega arith)
+formed-push (q ∷ rs) r h formed zero within = h 0 (omega arith)
+formed-push (q ∷ rs) r h formed (suc rev) within = formed-push rs r (λ n less. h (suc n) (omega arith)) formed rev (omega arith)
+
 pub none_listed : (rev : ℕ) → IsListed rev [] []
 none_listed rev = record { many = refl; each = λ index d h. absurd (omega arith); paths = λ index d h. absurd (omega arith) }
 
@@ -102,6 +109,7 @@ kept_more rs number r kept ready next = record {
   few = (let few = ready.few in omega (arith, length-push rs r, few, next));
   flat = flat-push rs r kept.flat ready.flat;
   listed = listed-more rs number r kept.listed ready.listed next;
+  formed = λ rev h. let n = length-push rs r in formed-push rs r kept.formed ready.formed rev (omega (arith, n, h));
 }
 
 pub pushes_one : (name uuid : List ℕ) (room more : ℕ) (rs : List FlatRevision) (number : ℕ) (r : FlatRevision) (ready : ReadyRevision) (old : Forest) → forest_of name uuid rs room ≡ old → ready_of number r ≡ ready → Pushes ready old (forest_of name uuid (rs ++ r ∷ []) more)

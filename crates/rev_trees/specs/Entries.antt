@@ -1,5 +1,5 @@
 -- What stands in directories.
-use Rattle.std.specs.Prelude.{ℕ, ◌≡◌, Bool, false, List, Option, None, Some, IsTrue, if◌then◌else◌}
+use Rattle.std.specs.Prelude.{ℕ, ◌≡◌, Bool, false, List, [], Option, None, Some, IsTrue, if◌then◌else◌}
 use Rattle.std.specs.Option.{option_map_or}
 use Rattle.std.specs.List.{filter_map, All}
 use Rattle.std.specs.Str.{bytes_eq}
@@ -8,6 +8,8 @@ use Rattle.std.specs.Ordering.{nat_cmp}
 use Rattle.std.specs.Cmp.Lexicographic.{slice_cmp}
 use Rattle.dsv_base.specs.Paths.{is_path, parent_text, name_of}
 use Rattle.rev_trees.specs.declared.entry.Entry.{Entry}
+use Rattle.rev_trees.specs.declared.kind.Kind.TheVariants.{File}
+use Rattle.rev_trees.specs.declared.node.Node.{Node}
 use Rattle.rev_trees.specs.Forests.{Numbered, Forest, places_at, place_at, id_at, node_at}
 
 -- the path stands right below the directory
@@ -24,6 +26,10 @@ entries_in directory places = filter_map (entry_in directory) places
 -- wherever the number stands, these stand in it
 abbrev pub AreEntriesOf : Forest → ℕ → List Entry → Type 0
 AreEntriesOf forest id entries = (rev : ℕ) (path : List ℕ) → id_at forest rev path ≡ Some id → entries ≡ entries_in path (places_at forest rev)
+
+-- where the number stands at a file, nothing is among these
+abbrev pub HasNoneInFile : Forest → ℕ → List Entry → Type 0
+HasNoneInFile forest id entries = (rev : ℕ) (path : List ℕ) (node : Node) → id_at forest rev path ≡ Some id → node_at forest rev path ≡ Some node → node.kind ≡ File → entries ≡ []
 
 -- a place is found at its path, which is one
 pub record IsSoundPlace (forest : Forest) (rev : ℕ) (place : List ℕ × Numbered) : Type 0 where

@@ -11,6 +11,7 @@ use Rattle.rev_trees.specs.declared.unfit.Unfit.{Unfit}
 use Rattle.rev_trees.specs.declared.unfit.Unfit.TheVariants.{NoNode, IsRoot, Exists, NoParent, TooLong, NoMemory}
 use Rattle.rev_trees.specs.Trees.{TreeNode, Tree, at}
 use Rattle.rev_trees.specs.Changes.{unfit, apply, apply_from, placed}
+use Rattle.rev_trees.specs.Formed.{IsFormed}
 
 abbrev pub node_of : Place → TreeNode
 node_of place = record { node = place.node; line = place.line }
@@ -59,6 +60,10 @@ Fits says why (Err fault) = MatchBool (is_want fault) (Unit {0}) (why ≡ Some f
 abbrev pub IsPlaced : List ℕ → TreeNode → Place → Type 0
 IsPlaced path node place = (place.path ≡ path) × (node_of place ≡ node)
 
+-- a node as a change of this revision leaves it
+abbrev pub settled : ℕ → TreeNode → TreeNode
+settled r found = record found { node = record found.node { created = r } }
+
 -- the places of the tree
 pub record AreOf (tree : Tree) (places : List Place) : Type 0 where
   pub is : tree_in places ≡ tree
@@ -79,7 +84,7 @@ fault_of index TooLong = faults.Unfit index
 
 -- what the changes did to the places, or the first that doesn't fit
 abbrev pub AppliesAll : ℕ → List Change → List Tree → List Place → List Place → Result (Unit {0}) PushFault → Type 0
-AppliesAll r changes trees old new (Ok done) = (apply_from 0 changes trees (tree_in old) r ≡ Ok (tree_in new)) × IsTrue (in_order (tree_in new))
+AppliesAll r changes trees old new (Ok done) = (apply_from 0 changes trees (tree_in old) r ≡ Ok (tree_in new)) × IsTrue (in_order (tree_in new)) × IsFormed (tree_in new)
 AppliesAll r changes trees old new (Err (faults.Unfit index)) = (why : Unfit) × (apply_from 0 changes trees (tree_in old) r ≡ Err (index, why))
 AppliesAll r changes trees old new (Err faults.FullRevisions) = ⊥
 AppliesAll r changes trees old new (Err faults.NoMemory) = ⊤

@@ -1,16 +1,17 @@
 -- How a repository is kept: its revisions as flat lists of places, of which each has the number of
 -- its revision and of where it stands there.
-use Rattle.std.specs.Prelude.{ℕ, ◌+◌, ◌*◌, ◌≤◌, List, [], ◌∷◌, None, length, map, slice_index_or, IsTrue}
+use Rattle.std.specs.Prelude.{ℕ, ◌+◌, ◌≤◌, ◌<◌, List, [], ◌∷◌, None, length, map, slice_index_or, IsTrue}
 use Rattle.dsv_base.specs.Paths.{root_text}
 use Rattle.rev_trees.specs.declared.kind.Kind.TheVariants.{Dir}
 use Rattle.rev_trees.specs.declared.place.Place.{Place}
 use Rattle.rev_trees.specs.declared.revision.FlatRevision.{FlatRevision}
 use Rattle.rev_trees.specs.Trees.{Tree}
-use Rattle.rev_trees.specs.Forests.{Numbered, ForestRevision, Forest, no_commit}
+use Rattle.rev_trees.specs.Forests.{ForestRevision, Forest, no_commit}
 use Rattle.rev_trees.specs.Readies.{ReadyRevision}
 use Rattle.rev_trees.specs.Flat.{tree_in, in_order}
 use Rattle.rev_trees.specs.Numbers.{numbered_from}
 use Rattle.rev_trees.specs.Listed.{IsListed}
+use Rattle.rev_trees.specs.Formed.{IsFormed}
 use Rattle.rev_trees.specs.declared.entry.Entry.{Entry}
 
 abbrev pub numbered_revision : ℕ → FlatRevision → ForestRevision
@@ -54,9 +55,11 @@ pub record IsReady (number : ℕ) (revision : FlatRevision) : Type 0 where
   pub few : number ≤ 2000000000
   pub flat : IsFlat revision.places
   pub listed : IsListed number revision.places revision.entries
+  pub formed : IsFormed (tree_in revision.places)
 
 pub record AreKept (revisions : List FlatRevision) : Type 0 where
   pub some : 1 ≤ length revisions
   pub few : length revisions ≤ 2000000001
   pub flat : (rev : ℕ) → IsFlat (places_in revisions rev)
   pub listed : (rev : ℕ) → IsListed rev (places_in revisions rev) (lists_in revisions rev)
+  pub formed : (rev : ℕ) → rev < length revisions → IsFormed (tree_in (places_in revisions rev))

@@ -5,6 +5,7 @@ pub mod Named
 pub mod Pushes
 pub mod Forests
 pub mod Entries
+pub mod Formed
 pub mod Readies
 pub mod Flat
 pub mod Numbers

@@ -11,6 +11,7 @@ use Rattle.rev_trees.specs.ChangedPaths.{changed_paths}
 use Rattle.rev_trees.specs.Flat.{tree_in}
 use Rattle.rev_trees.specs.Kept.{places_in, trees_in, IsFlat}
 use Rattle.rev_trees.specs.Listed.{IsListed}
+use Rattle.rev_trees.specs.Formed.{IsFormed}
 
 abbrev pub youngest_in : List FlatRevision → Tree
 youngest_in revisions = tree_in (places_in revisions (length revisions - 1))
@@ -24,6 +25,7 @@ pub record IsMade (revisions : List FlatRevision) (commit : Commit) (revision : 
   pub changed_is : revision.changed ≡ changed_paths commit.changes (youngest_in revisions) (tree_in revision.places)
   pub flat : IsFlat revision.places
   pub listed : IsListed (length revisions) revision.places revision.entries
+  pub formed : IsFormed (tree_in revision.places)
 
 abbrev pub Makes : List FlatRevision → Commit → Result FlatRevision PushFault → Type 0
 Makes revisions commit (Ok revision) = IsMade revisions commit revision

@@ -1,15 +1,13 @@
 -- A revision as a script has it.
-use Rattle.std.specs.Prelude.{ℕ, ◌≡◌, ◌≤◌, Bool, true, ◌&&◌, List, [], ◌∷◌, ◌++◌, Ok, length, nat_le, nat_lt, codes, IsTrue}
+use Rattle.std.specs.Prelude.{ℕ, ◌≡◌, ◌≤◌, Bool, ◌&&◌, List, ◌++◌, Ok, length, nat_le, nat_lt, codes, IsTrue}
 use Rattle.std.specs.List.{list_all, flat_map}
 use Rattle.std.specs.Fmt.{decimal}
-use Rattle.std.specs.Ordering.{nat_cmp, is_lt}
-use Rattle.std.specs.Cmp.Lexicographic.{slice_cmp}
 use Rattle.dsv_base.specs.Paths.{is_path}
 use Rattle.dsv_base.specs.declared.prop.Prop.{Prop}
 use Rattle.rev_trees.specs.declared.change.Change.{Change}
 use Rattle.rev_trees.specs.declared.change.Change.TheVariants.{Put, SetProp, DelProp, Mkdir, Delete, Copy}
 use Rattle.rev_trees.specs.declared.commit.Commit.{Commit}
-use Rattle.rev_trees.specs.PropertyNames.{is_property_name, is_revision_property}
+use Rattle.rev_trees.specs.PropertyNames.{is_property_name, is_revision_property, names_rise}
 use Rattle.rev_trees.specs.Steps.{longest, most_revision}
 use Rattle.rev_trees.specs.Trees.{Repository, Revision}
 use Rattle.rev_trees.specs.Pushes.{pushed}
@@ -58,15 +56,6 @@ is_tellable_change number (DelProp path name) = nat_le 1 number && is_path path 
 is_tellable_change number (Mkdir path) = nat_le 1 number && is_path path
 is_tellable_change number (Delete path) = nat_le 1 number && is_path path
 is_tellable_change number (Copy source rev path) = nat_le 1 number && is_path source && is_path path && nat_lt rev number
-
--- the names rise in byte order
-abbrev pub comes_before : Prop → List Prop → Bool
-comes_before prop [] = true
-comes_before prop (next ∷ props) = is_lt (slice_cmp nat_cmp prop.name next.name)
-
-abbrev pub names_rise : List Prop → Bool
-names_rise [] = true
-names_rise (prop ∷ props) = comes_before prop props && names_rise props
 
 -- the commit is one that the revision of this number may have in a script
 pub record IsTellable (number : ℕ) (commit : Commit) : Type 0 where

@@ -12,7 +12,7 @@ use crate::reader::{heading_from, line_after, read_items, revision_head};
 use crate::ready::Ready;
 use crate::script_fault::ScriptFault;
 use crate::told::Told;
-use crate::trees::Trees;
+use crate::trees::{Trees, zeroth};
 use dsv_base::{Bytes, Moment, Rev};
 use std::alloc::Global;
 
@@ -41,27 +41,16 @@ fn zeroth_from(alloc: Global, text: &[u8]) -> Result<(Commit, u32, &[u8]), Scrip
     ensures room { IfOk result (λ x. x.1 + length x.2.now ≤ 4 + length text.now) }
     ensures shorter { IfOk result (λ x. length x.2.now ≤ length text.now) }
 {
-    let (moment, author, rest) = match revision_head(revision(0), text) {
+    let (moment, author, rest) = match revision_head(zeroth(), text) {
         Ok(head) => head,
         Err(fault) => return Err(fault.at(4)),
     };
     let line = line_after(4, text, rest);
     let mut told = Told::new(alloc);
-    let (line, rest) = read_items(alloc, revision(0), &mut told, line, rest)?;
+    let (line, rest) = read_items(alloc, zeroth(), &mut told, line, rest)?;
     let author = Bytes::of(alloc, author)?;
     let (commit, _) = told.into_commit(author, moment);
     Ok((commit, line, rest))
-}
-
-/// The revision of a number that is one.
-fn revision(number: u32) -> Rev
-    requires { number ≤ 2000000000 }
-    ensures { result ≡ number }
-{
-    match Rev::of(number) {
-        Some(rev) => rev,
-        None => unreachable!(),
-    }
 }
 
 /// The trees with all revisions of the text, which begins at this line.
@@ -173,7 +162,7 @@ fn prepare_told(
     }
 }
 
-/// The line of the change of this number.
+/// The line of the change of this number. Each change has one: the 0 past the last is never told.
 fn line_of(lines: &[u32], index: u32) -> u32
     ensures { result ≡ slice_index_or lines.now index 0 }
 {

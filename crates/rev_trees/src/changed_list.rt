@@ -15,7 +15,9 @@ use crate::shared::Shared;
 use dsv_base::{List, NoMemory, Path, Rev};
 use std::alloc::Global;
 
-/// The paths that the changes changed, from the places before them and after them.
+/// The paths that the changes changed, from the places before them and after them. For a path that was
+/// added, or is there still, all changes are read again: the time grows with the number of changes
+/// times that of the paths they name.
 #[tactic(auto, unfolding(crate::specs::ChangedPaths::changed_paths))]
 pub fn changed_paths(
     alloc: Global,

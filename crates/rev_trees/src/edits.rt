@@ -1,11 +1,12 @@
 ghost use Rattle.std.specs.Prelude.{◌≡◌, ℕ, ⊤, IsTrue, IfOk, OnOk, List, [], None, Some, is_some, if◌then◌else◌};
-ghost use Rattle.dsv_base.specs.Paths.{root_text};
+ghost use Rattle.dsv_base.specs.Paths.{is_path, root_text};
 ghost use Rattle.rev_trees.specs.declared.change.Change.TheVariants as changes;
 ghost use Rattle.rev_trees.specs.declared.kind.Kind.{Kind};
 ghost use Rattle.rev_trees.specs.declared.unfit.Unfit.TheVariants as whys;
 ghost use Rattle.rev_trees.specs.Trees.{Tree, TreeNode, at, new_dir, new_file, is_dir_kind};
+ghost use Rattle.rev_trees.specs.ChangedPaths.{path_of};
 ghost use Rattle.rev_trees.specs.Changes.{unfit, unfit_at, unfit_new, unfit_copy, apply, marked, placed, all_placed, copied, with_text, with_prop, without_prop, with_props};
-ghost use Rattle.rev_trees.specs.Flat.{tree_in, in_order, node_of, AreOf, Fits, IsPlaced, Applies};
+ghost use Rattle.rev_trees.specs.Flat.{tree_in, in_order, node_of, settled, AreOf, Fits, IsPlaced, Applies};
 ghost use Rattle.rev_trees.specs.Kept.{trees_in, places_in};
 
 use crate::change::Change;
@@ -36,7 +37,8 @@ pub fn apply(
 ) -> Result<(), Unfit>
     requires sorted { IsTrue (in_order (tree_in places.old.items)) }
     requires kept { (r : ℕ) → IsTrue (in_order (tree_in (places_in revisions.now r))) }
-    ensures { Applies rev change.now (trees_in revisions.now) places.old.items places.new.items result }
+    ensures says { Applies rev change.now (trees_in revisions.now) places.old.items places.new.items result }
+    ensures named { IfOk result (λ done. IsTrue (is_path (path_of change.now))) }
 {
     match change {
         Change::Put { path, text } => put(alloc, places, path, text, rev),
@@ -74,7 +76,8 @@ fn put(
     rev: Rev,
 ) -> Result<(), Unfit>
     requires { IsTrue (in_order (tree_in places.old.items)) }
-    ensures { (trees : List Tree) → Applies rev (changes.Put path.now text.now) trees places.old.items places.new.items result }
+    ensures says { (trees : List Tree) → Applies rev (changes.Put path.now text.now) trees places.old.items places.new.items result }
+    ensures named { IfOk result (λ done. IsTrue (is_path path.now)) }
 {
     let place = put_place(alloc, places.as_slice(), path, text, rev)?;
     settle(alloc, places, path, place, rev)?;
@@ -91,12 +94,13 @@ fn put_place(
     rev: Rev,
 ) -> Result<Place, Unfit>
     requires { IsTrue (in_order (tree_in places.now)) }
-    ensures { Fits (IsPlaced path.now (with_text rev text.now (at path.now (tree_in places.now)))) (unfit (changes.Put path.now text.now) [] (tree_in places.now)) result }
+    ensures named { IfOk result (λ place. IsTrue (is_path path.now)) }
+    ensures says { Fits (IsPlaced path.now (settled rev (with_text rev text.now (at path.now (tree_in places.now))))) (unfit (changes.Put path.now text.now) [] (tree_in places.now)) result }
 {
     match place_at(places, path.text()) {
         Some(place) => match place.node.get().kind {
             Kind::Dir => Err(Unfit::Exists),
-            Kind::File => Ok(place_with_text(alloc, place, text)?),
+            Kind::File => Ok(place_with_text(alloc, place, text, rev)?),
         },
         None => {
             if !has_parent(places, path.text()) {
@@ -117,13 +121,14 @@ fn set_prop(
     rev: Rev,
 ) -> Result<(), Unfit>
     requires { IsTrue (in_order (tree_in places.old.items)) }
-    ensures { (trees : List Tree) → Applies rev (changes.SetProp path.now name.now value.now) trees places.old.items places.new.items result }
+    ensures says { (trees : List Tree) → Applies rev (changes.SetProp path.now name.now value.now) trees places.old.items places.new.items result }
+    ensures named { IfOk result (λ done. IsTrue (is_path path.now)) }
 {
     let Some(old) = place_at(places.as_slice(), path.text()) else {
         return Err(Unfit::NoNode);
     };
     let props = with_prop(alloc, old.node.get().props.get(), name, value)?;
-    let place = place_with_props(alloc, old, props)?;
+    let place = place_with_props(alloc, old, props, rev)?;
     settle(alloc, places, path, place, rev)?;
     Ok(())
 }
@@ -137,13 +142,14 @@ fn del_prop(
     rev: Rev,
 ) -> Result<(), Unfit>
     requires { IsTrue (in_order (tree_in places.old.items)) }
-    ensures { (trees : List Tree) → Applies rev (changes.DelProp path.now name.now) trees places.old.items places.new.items result }
+    ensures says { (trees : List Tree) → Applies rev (changes.DelProp path.now name.now) trees places.old.items places.new.items result }
+    ensures named { IfOk result (λ done. IsTrue (is_path path.now)) }
 {
     let Some(old) = place_at(places.as_slice(), path.text()) else {
         return Err(Unfit::NoNode);
     };
     let props = without_prop(alloc, old.node.get().props.get(), name)?;
-    let place = place_with_props(alloc, old, props)?;
+    let place = place_with_props(alloc, old, props, rev)?;
     settle(alloc, places, path, place, rev)?;
     Ok(())
 }
@@ -151,7 +157,8 @@ fn del_prop(
 #[tactic(auto, unfolding(crate::specs::Changes::unfit, crate::specs::Changes::apply))]
 fn mkdir(alloc: Global, places: &mut Vec<Shared<Place>>, path: &Path, rev: Rev) -> Result<(), Unfit>
     requires { IsTrue (in_order (tree_in places.old.items)) }
-    ensures { (trees : List Tree) → Applies rev (changes.Mkdir path.now) trees places.old.items places.new.items result }
+    ensures says { (trees : List Tree) → Applies rev (changes.Mkdir path.now) trees places.old.items places.new.items result }
+    ensures named { IfOk result (λ done. IsTrue (is_path path.now)) }
 {
     check_free(places.as_slice(), path)?;
     let text = Bytes::from_vec(Vec::new(alloc));
@@ -168,7 +175,8 @@ fn delete(
     rev: Rev,
 ) -> Result<(), Unfit>
     requires { IsTrue (in_order (tree_in places.old.items)) }
-    ensures { (trees : List Tree) → Applies rev (changes.Delete path.now) trees places.old.items places.new.items result }
+    ensures says { (trees : List Tree) → Applies rev (changes.Delete path.now) trees places.old.items places.new.items result }
+    ensures named { IfOk result (λ done. IsTrue (is_path path.now)) }
 {
     if !is_at(places.as_slice(), path.text()) {
         return Err(Unfit::NoNode);
@@ -193,7 +201,8 @@ fn copy(
 ) -> Result<(), Unfit>
     requires sorted { IsTrue (in_order (tree_in places.old.items)) }
     requires source { IsTrue (in_order (tree_in from.now)) }
-    ensures { Fits (λ done. AreOf (marked rev path.now (all_placed (copied source.now source_rev path.now rev (tree_in from.now)) (tree_in places.old.items))) places.new.items) (if is_some (at source.now (tree_in from.now)) then unfit_copy path.now (copied source.now source_rev path.now 0 (tree_in from.now)) (tree_in places.old.items) else Some whys.NoNode) result }
+    ensures named { IfOk result (λ done. IsTrue (is_path path.now)) }
+    ensures says { Fits (λ done. AreOf (marked rev path.now (all_placed (copied source.now source_rev path.now rev (tree_in from.now)) (tree_in places.old.items))) places.new.items) (if is_some (at source.now (tree_in from.now)) then unfit_copy path.now (copied source.now source_rev path.now 0 (tree_in from.now)) (tree_in places.old.items) else Some whys.NoNode) result }
 {
     if !is_at(from, source.text()) {
         return Err(Unfit::NoNode);
@@ -208,7 +217,8 @@ fn copy(
 /// Whether a new node can stand at the path.
 fn check_free(places: &[Shared<Place>], path: &Path) -> Result<(), Unfit>
     requires { IsTrue (in_order (tree_in places.now)) }
-    ensures { Fits (λ done. ⊤) (unfit_new path.now (tree_in places.now)) result }
+    ensures says { Fits (λ done. ⊤) (unfit_new path.now (tree_in places.now)) result }
+    ensures named { IfOk result (λ done. IsTrue (is_path path.now)) }
 {
     if is_at(places, path.text()) {
         return Err(Unfit::Exists);
@@ -263,28 +273,37 @@ fn new_place(
     })
 }
 
-fn place_with_text(alloc: Global, place: &Place, text: &Bytes) -> Result<Place, NoMemory>
-    ensures { IfOk result (λ new. new ≡ record place.now { node = record place.now.node { text = text.now } }) }
+/// The place with another text, as this revision leaves it. The text is copied once: the commit keeps
+/// its own.
+fn place_with_text(alloc: Global, place: &Place, text: &Bytes, rev: Rev) -> Result<Place, NoMemory>
+    ensures { IfOk result (λ new. new ≡ record place.now { node = record place.now.node { text = text.now; created = rev } }) }
 {
     let old = place.node.get();
     let node = Node {
         kind: old.kind,
         props: copy_props(alloc, old.props.get())?,
         text: text.copy()?,
-        created: old.created,
+        created: rev,
     };
     with_node(alloc, place, node)
 }
 
-fn place_with_props(alloc: Global, place: &Place, props: List<Prop>) -> Result<Place, NoMemory>
-    ensures { IfOk result (λ new. new ≡ record place.now { node = record place.now.node { props = props } }) }
+/// The place with other properties, as this revision leaves it. The text of a file is copied once,
+/// since a node owns its text.
+fn place_with_props(
+    alloc: Global,
+    place: &Place,
+    props: List<Prop>,
+    rev: Rev,
+) -> Result<Place, NoMemory>
+    ensures { IfOk result (λ new. new ≡ record place.now { node = record place.now.node { props = props; created = rev } }) }
 {
     let old = place.node.get();
     let node = Node {
         kind: old.kind,
         props,
         text: old.text.copy()?,
-        created: old.created,
+        created: rev,
     };
     with_node(alloc, place, node)
 }

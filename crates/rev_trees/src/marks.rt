@@ -38,6 +38,9 @@ fn marked(
     Ok(new)
 }
 
+/// The place as a change at the path leaves it. A node that this revision has changed before is
+/// shared, and not copied.
+#[tactic(auto, using(crate::proofs::Settled::marked_before))]
 fn marked_place(
     alloc: Global,
     place: Shared<Place>,
@@ -48,6 +51,9 @@ fn marked_place(
 {
     let old = place.get();
     if !path.is_under(&old.path) {
+        return Ok(place);
+    }
+    if old.node.get().created == rev {
         return Ok(place);
     }
     let node = copy_node(alloc, old.node.get(), rev)?;

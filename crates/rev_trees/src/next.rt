@@ -1,6 +1,7 @@
-ghost use Rattle.std.specs.Prelude.{◌≡◌, ℕ, ◌-◌, ◌≤◌, IsTrue, IfOk, length};
+ghost use Rattle.std.specs.Prelude.{◌≡◌, ℕ, ◌-◌, ◌<◌, ◌≤◌, IsTrue, IfOk, length};
 ghost use Rattle.rev_trees.specs.Flat.{tree_in, in_order, fault_of, AppliesAll};
 ghost use Rattle.rev_trees.specs.Kept.{trees_in, places_in, AreKept};
+ghost use Rattle.rev_trees.specs.Formed.{IsFormed};
 ghost use Rattle.rev_trees.specs.Made.{Makes};
 
 use crate::change::Change;
@@ -76,6 +77,8 @@ fn apply_all(
 ) -> Result<(), PushFault>
     requires sorted { IsTrue (in_order (tree_in places.old.items)) }
     requires kept { (r : ℕ) → IsTrue (in_order (tree_in (places_in revisions.now r))) }
+    requires formed { IsFormed (tree_in places.old.items) }
+    requires sources { (r : ℕ) → r < length revisions.now → IsFormed (tree_in (places_in revisions.now r)) }
     requires few { length changes.now ≤ 4294967295 }
     ensures { AppliesAll rev changes.now (trees_in revisions.now) places.old.items places.new.items result }
 {

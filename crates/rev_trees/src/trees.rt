@@ -6,7 +6,8 @@ ghost use Rattle.std.specs.Cmp.Lexicographic.{slice_cmp};
 ghost use Rattle.rev_trees.specs.Trees.{at};
 ghost use Rattle.rev_trees.specs.Pushes.{first_revision};
 ghost use Rattle.rev_trees.specs.Forests.{Numbered, id_at, line_at, revision_at, repository_of, IsId, IsNodeOf};
-ghost use Rattle.rev_trees.specs.Entries.{AreEntriesOf, IsSound};
+ghost use Rattle.rev_trees.specs.Entries.{AreEntriesOf, HasNoneInFile, IsSound};
+ghost use Rattle.rev_trees.specs.Formed.{AreFormed};
 ghost use Rattle.rev_trees.specs.Readies.{IsReadyOn, IsUnchanged, Prepares, Pushes};
 ghost use Rattle.rev_trees.specs.Kept.{places_in, lists_in, no_flat_revision, root_place};
 ghost use Rattle.rev_trees.specs.Numbers.{numbered_from};
@@ -90,7 +91,8 @@ impl Trees {
 
     /// The number of the youngest revision.
     pub fn youngest(&self) -> Rev
-        ensures { result + 1 ≡ length self.now.revisions }
+        ensures number { result + 1 ≡ length self.now.revisions }
+        ensures formed { AreFormed self.now }
     {
         let count = self.revisions.len();
         match Rev::of((count - 1) as u32) {
@@ -141,10 +143,12 @@ impl Trees {
         )
     }
 
-    /// What stands in the node of this number, in byte order of the paths, and so of the names.
+    /// What stands in the node of this number, in byte order of the paths, and so of the names; nothing
+    /// where that is a file.
     pub fn entries(&self, id: NodeId) -> &[Entry]
         requires { IsId self.now id }
         ensures are { AreEntriesOf self.now id result.now }
+        ensures none { HasNoneInFile self.now id result.now }
         ensures sound { IsSound self.now }
     {
         list_of(self.revisions.as_slice(), id.get())
@@ -233,9 +237,7 @@ fn root_entries(alloc: Global) -> Result<List<EntryList>, NoMemory>
 fn root_place(alloc: Global) -> Result<Shared<Place>, NoMemory>
     ensures { IfOk result (λ place. place ≡ root_place) }
 {
-    let Some(zeroth) = Rev::of(0) else {
-        return Err(NoMemory);
-    };
+    let zeroth = zeroth();
     let node = Node {
         kind: Kind::Dir,
         props: List::of(Vec::new(alloc)),
@@ -251,6 +253,16 @@ fn root_place(alloc: Global) -> Result<Shared<Place>, NoMemory>
         },
     };
     Shared::of(alloc, place)
+}
+
+/// The number of the first revision.
+pub(crate) fn zeroth() -> Rev
+    ensures { result ≡ 0 }
+{
+    match Rev::of(0) {
+        Some(rev) => rev,
+        None => unreachable!(),
+    }
 }
 
 fn revision_of(revisions: &[FlatRevision], rev: usize) -> &FlatRevision

@@ -1,6 +1,4 @@
-use Rattle.std.proofs.Common.{List, sym, subst, ◌∙◌}
-use Rattle.rev_trees.specs.declared.entry.Entry.{Entry}
-use Rattle.rev_trees.specs.Entries.{AreEntriesOf}
+use Rattle.rev_trees.proofs.FormFound.{formed-of, none_in_file}
 use Rattle.rev_trees.proofs.EntriesFound.{entries-of, listed-below, sound-of}
 use Rattle.rev_trees.proofs.trees.Trees.entries.Goals as goal
 
@@ -12,3 +10,11 @@ returns-clause-are c = entries-of c.self.inside.name c.self.inside.uuid _ c.self
 
 pub returns-clause-sound : goal.returns-clause-sound
 returns-clause-sound c = sound-of c.self.inside.name c.self.inside.uuid _ c.self.inside.revisions.items c.self.invariant c.args.self.now c.self.view_is
+
+pub returns-clause-none : goal.returns-clause-none
+returns-clause-none c =
+    let are = entries-of c.self.inside.name c.self.inside.uuid _ c.self.inside.revisions.items c.self.invariant c.args.self.now c.args.id c.list_of.result.now c.self.view_is (rw (c.get.ensures, c.as_slice.ensures.value) at c.list_of.ensures) in
+    none_in_file c.args.self.now
+    (sound-of c.self.inside.name c.self.inside.uuid _ c.self.inside.revisions.items c.self.invariant c.args.self.now c.self.view_is)
+    (formed-of c.self.inside.name c.self.inside.uuid _ c.self.inside.revisions.items c.self.invariant c.args.self.now c.self.view_is)
+    c.args.id c.list_of.result.now are

@@ -1,4 +1,4 @@
-use Rattle.std.proofs.Common.{◌≡◌, Option, IfOk, subst, ◌∙◌}
+use Rattle.std.proofs.Common.{◌≡◌, Option, IfOk, subst}
 use Rattle.rev_trees.specs.declared.line.Line.{Line}
 use Rattle.rev_trees.proofs.Numbering.{line-of, length-of}
 use Rattle.rev_trees.proofs.trees.Trees.line.Goals as goal

@@ -1,0 +1,7 @@
+mod Shown
+mod Listed
+mod Fields
+pub mod Talking
+mod Acting
+mod ReadingAlone
+mod HiddenPaths

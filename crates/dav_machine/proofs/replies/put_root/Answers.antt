@@ -1,0 +1,9 @@
+use Rattle.std.proofs.Common.{[], ◌∷◌}
+use Rattle.std.specs.Prelude.{codes}
+use Rattle.dav_machine.specs.Replies.{stub_field, root_fields}
+use Rattle.dav_machine.proofs.Fields.{one_more}
+use Rattle.dav_machine.proofs.replies.put_root.Goals as goal
+
+pub returns : goal.returns
+unfolding root_fields
+returns c = one_more c.put_stub-2.result c.args.fields.now.items c.put_stub.new.fields.items c.put_stub-2.new.fields.items (stub_field c.args.root.now (codes "SVN-Repository-Root") [] ∷ []) (stub_field c.args.root.now (codes "SVN-Me-Resource") (codes "/!svn/me")) c.in_ok-put_stub.ensures c.put_stub-2.ensures

@@ -1,0 +1,16 @@
+pub mod States
+pub mod Views
+pub mod Methods
+pub mod Media
+pub mod Listings
+pub mod Shown
+pub mod Replies
+pub mod ReadReplies
+pub mod Histories
+pub mod WriteReplies
+pub mod AllReplies
+pub mod Laws
+pub mod Turns
+pub mod Talks
+pub mod Hubs
+pub mod HubFacts

@@ -1,0 +1,4 @@
+mod Beginnings
+mod Passed
+mod Progress
+mod Ends

@@ -1,0 +1,5 @@
+pub mod Closings
+pub mod Points
+pub mod Serves
+pub mod Steps
+pub mod Laws

@@ -1,0 +1,15 @@
+//! Serving one connection: requests from a source, each answered by a turn, and the replies into a
+//! sink.
+#![tactic(auto)]
+
+#[cfg(test)]
+mod cut;
+mod laws;
+mod serving;
+mod steps;
+#[cfg(test)]
+mod tests;
+
+pub use dsv_outside::ServeEnd;
+pub use laws::beginnings_are_first;
+pub use serving::serve_connection;

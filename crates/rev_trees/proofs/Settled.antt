@@ -1,0 +1,53 @@
+-- Nodes that a revision has changed before they are marked.
+use Rattle.std.proofs.Common.{◌≡◌, ℕ, Bool, true, false, List, [], ◌∷◌, Option, None, Some, refl, sym, ap, ◌∙◌}
+use Rattle.std.specs.Prelude.{if◌then◌else◌, is_some}
+use Rattle.std.specs.Option.{option_map_or}
+use Rattle.std.specs.Ordering.{nat_cmp}
+use Rattle.std.specs.declared.cmp.Ordering.TheVariants.{Less, Equal, Greater}
+use Rattle.std.specs.Cmp.Lexicographic.{slice_cmp}
+use Rattle.std.specs.FinMap.Entries.{by_order}
+use Rattle.std.proofs.lemmas.Map.Lookups.{exact_bytes}
+use Rattle.dsv_base.specs.declared.prop.Prop.{Prop}
+use Rattle.dsv_base.specs.Paths.{is_under}
+use Rattle.rev_trees.specs.declared.place.Place.{Place}
+use Rattle.rev_trees.specs.Trees.{TreeNode, Tree}
+use Rattle.rev_trees.specs.declared.unfit.Unfit.TheVariants.{NoNode}
+use Rattle.rev_trees.specs.Changes.{mark, marked, placed, with_props, edited, unfit_at}
+use Rattle.rev_trees.specs.Flat.{node_of, entry, settled, AreOf, IsFoundAt}
+use Rattle.rev_trees.proofs.Below.{under_itself}
+
+-- a node of this revision has its mark
+pub marked_before : (r : ℕ) (path : List ℕ) (place : Place) → place.node.created ≡ r → entry place ≡ mark r path (entry place)
+marked_before r path place same = either (is_under path place.path)
+  where
+    either : (b : Bool) → entry place ≡ (place.path, if b then settled r (entry place).1 else (entry place).1)
+    either true = ap (λ (n : ℕ). (place.path, settled n (entry place).1)) same
+    either false = refl
+
+marked_at : (r : ℕ) (path key : List ℕ) (node : TreeNode) → is_under path key ≡ true → mark r path (key, settled r node) ≡ mark r path (key, node)
+marked_at r path key node under = ap (λ b. (key, if b then settled r node else settled r node)) under ∙ ap (λ b. (key, if b then settled r node else node)) (sym under)
+
+-- a node that is put at the path gets its mark at once, or after
+pub marked_settled : (r : ℕ) (path : List ℕ) (node : TreeNode) (tree : Tree) → marked r path (placed path (settled r node) tree) ≡ marked r path (placed path node tree)
+marked_settled r path node [] = ap (λ e. e ∷ []) (marked_at r path path node (under_itself path))
+marked_settled r path node (e ∷ es) =
+    elim (slice_cmp nat_cmp path e.0) as (λ o. slice_cmp nat_cmp path e.0 ≡ o → marked r path (by_order o ((path, settled r node) ∷ e ∷ es) ((e.0, settled r node) ∷ es) (e ∷ placed path (settled r node) es)) ≡ marked r path (by_order o ((path, node) ∷ e ∷ es) ((e.0, node) ∷ es) (e ∷ placed path node es))) [
+      | Less ↦ λ t. ap (λ e1. e1 ∷ marked r path (e ∷ es)) (marked_at r path path node (under_itself path))
+      | Equal ↦ λ t. ap (λ e1. e1 ∷ marked r path es) (marked_at r path e.0 node (ap (is_under path) (sym (exact_bytes path e.0 t)) ∙ under_itself path))
+      | Greater ↦ λ t. ap (λ others. mark r path e ∷ others) (marked_settled r path node es)
+    ] refl
+
+-- so the places are those of the change
+pub settles : (r : ℕ) (path : List ℕ) (node made : TreeNode) (tree : Tree) (places : List Place) → made ≡ settled r node → AreOf (marked r path (placed path made tree)) places → AreOf (marked r path (placed path node tree)) places
+settles r path node made tree places same are =
+    let equal : marked r path (placed path made tree) ≡ marked r path (placed path node tree) = ap (λ n. marked r path (placed path n tree)) same ∙ marked_settled r path node tree in
+    record { is = are.is ∙ equal; sorted = are.sorted }
+
+-- the place with other properties is that of the change
+pub edits_at : (edit : List Prop → List Prop) (r : ℕ) (path : List ℕ) (old made : Place) (props : List Prop) (tree : Tree) (places : List Place) → IsFoundAt path tree old → props ≡ edit old.node.props → made ≡ record old { node = record old.node { props = props; created = r } } → AreOf (marked r path (placed path (node_of made) tree)) places
+    → (unfit_at path tree ≡ None) × AreOf (marked r path (edited edit path tree)) places
+edits_at edit r path old made props tree places found new is are =
+    let same : node_of made ≡ settled r (with_props edit (node_of old)) = ap node_of is ∙ ap (λ (ps : List Prop). settled r (record (node_of old) { node = record old.node { props = ps } })) new in
+    let done : marked r path (edited edit path tree) ≡ marked r path (placed path (with_props edit (node_of old)) tree) = ap (λ (o : Option TreeNode). marked r path (option_map_or (λ found. placed path (with_props edit found) tree) o tree)) found.is in
+    let all = settles r path (with_props edit (node_of old)) (node_of made) tree places same are in
+    (ap (λ (o : Option TreeNode). if is_some o then None else Some NoNode) found.is, record { is = all.is ∙ sym done; sorted = all.sorted })
