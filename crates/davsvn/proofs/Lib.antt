@@ -1,3 +1,0 @@
-mod OptionWords
-mod RunLemmas
-mod WholeRuns

@@ -1,10 +1,1 @@
 pub mod AdapterStates
-pub mod Options
-pub mod Commands
-pub mod Words
-pub mod Asking
-pub mod Opening
-pub mod Runs
-pub mod Serving
-pub mod Whole
-pub mod Statuses

@@ -4,39 +4,18 @@
 
 #[cfg(test)]
 mod adapter_tests;
-mod asking;
-mod command;
-#[cfg(test)]
-mod connection_tests;
 mod disk_files;
-mod end;
-mod opening;
-mod options;
-mod pipe;
 mod reading;
-#[cfg(test)]
-mod reply_tests;
-mod run;
-#[cfg(test)]
-mod run_tests;
 mod script_keeper;
-mod status;
 mod system_clock;
-mod unread;
-mod verb;
-mod words;
-mod work;
-mod world;
 mod writing;
 
 use crate::disk_files::DiskFiles;
 use crate::reading::Reading;
-use crate::run::run;
 use crate::script_keeper::ScriptKeeper;
 use crate::system_clock::SystemClock;
-use crate::words::script_of;
-use crate::world::World;
 use crate::writing::Writing;
+use davsvn_run::{World, run, script_of};
 use dsv_base::Bytes;
 use std::process::ExitCode;
 use std::{env, io};

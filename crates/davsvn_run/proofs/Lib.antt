@@ -1,0 +1,3 @@
+mod OptionWords
+mod RunLemmas
+mod WholeRuns

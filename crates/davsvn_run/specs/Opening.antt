@@ -1,0 +1,70 @@
+-- What the three files give.
+use Rattle.std.specs.Prelude.{ℕ, ◌≡◌, List, Option, None, Some, Result, Ok, Err, ⊤, Bool, true, false}
+use Rattle.dsv_outside.specs.Reads.{Holds}
+use Rattle.authz_file.specs.declared.rules.Rules.{Rules}
+use Rattle.authz_file.specs.declared.rules_fault.RulesFault.{RulesFault}
+use Rattle.authz_file.specs.Faults.{line_of}
+use Rattle.authz_file.specs.Resolving.{rules_of}
+use Rattle.http_front.specs.declared.user.User.{User}
+use Rattle.http_front.specs.declared.users_fault.UsersFault.TheVariants as users_faults
+use Rattle.http_front.specs.UsersFile.{users_of}
+use Rattle.rev_trees.specs.declared.script_fault.ScriptFault.TheVariants as script_faults
+use Rattle.rev_trees.specs.Trees.{Repository}
+use Rattle.rev_trees.specs.Scripts.{repository_from}
+use Rattle.davsvn_run.specs.declared.end.End.{End}
+use Rattle.davsvn_run.specs.declared.end.End.TheVariants as end
+use Rattle.davsvn_run.specs.declared.unread.Unread.{Unread}
+use Rattle.davsvn_run.specs.declared.unread.Unread.TheVariants.{BadLine, Failed, NoMemory}
+
+-- names with bytes, where they are told
+abbrev pub Contents : Type 0
+Contents = Option (List (List ℕ × List ℕ))
+
+-- the text of the file of this name is such
+abbrev pub FileIs : (List ℕ → Type 0) → Contents → List ℕ → Type 0
+FileIs is contents name = (text : List ℕ) × Holds contents name text × is text
+
+-- it is the script of the repository, or is refused at a line
+abbrev pub IsScript : Contents → List ℕ → Repository → Type 0
+IsScript contents name repository = FileIs (λ text. repository_from text ≡ Ok repository) contents name
+
+abbrev pub IsNoScript : Contents → List ℕ → ℕ → Type 0
+IsNoScript contents name line = FileIs (λ text. repository_from text ≡ Err (script_faults.BadScript line)) contents name
+
+-- it gives the rules, or is refused at a line
+abbrev pub AreRules : Contents → List ℕ → Rules → Type 0
+AreRules contents name rules = FileIs (λ text. rules_of text ≡ Ok rules) contents name
+
+abbrev pub AreNoRules : Contents → List ℕ → ℕ → Type 0
+AreNoRules contents name line = FileIs (λ text. (fault : RulesFault) × (rules_of text ≡ Err fault) × (line_of fault ≡ Some line)) contents name
+
+-- it gives the users, or is refused at a line
+abbrev pub AreUsers : Contents → List ℕ → List User → Type 0
+AreUsers contents name users = FileIs (λ text. users_of text ≡ Ok users) contents name
+
+abbrev pub AreNoUsers : Contents → List ℕ → ℕ → Type 0
+AreNoUsers contents name line = FileIs (λ text. users_of text ≡ Err (users_faults.BadUsers line)) contents name
+
+-- what reading a file says of it
+abbrev pub ReadsFile : {X : Type 0} → (X → Type 0) → (ℕ → Type 0) → Result X Unread → Type 0
+ReadsFile is is_bad (Ok x) = is x
+ReadsFile is is_bad (Err (BadLine line)) = is_bad line
+ReadsFile is is_bad (Err Failed) = ⊤
+ReadsFile is is_bad (Err NoMemory) = ⊤
+
+abbrev pub is_failed_read : {X : Type 0} → Result X Unread → Bool
+is_failed_read (Ok x) = false
+is_failed_read (Err (BadLine line)) = false
+is_failed_read (Err Failed) = true
+is_failed_read (Err NoMemory) = false
+
+-- the end of a run that needs a file which isn't known: it names the file, unless memory is wanting for that
+abbrev pub end_of : List ℕ → Unread → End
+end_of name (BadLine line) = end.BadFile name line
+end_of name Failed = end.FileFault name
+end_of name NoMemory = end.NoMemory
+
+-- a refusal with its line; without one it is want of memory
+abbrev pub refused_at : Option ℕ → Unread
+refused_at None = NoMemory
+refused_at (Some line) = BadLine line

@@ -1,0 +1,34 @@
+-- The exit statuses, and the line that each puts to the errors.
+use Rattle.std.specs.Prelude.{ℕ, ◌⊎◌, List, [], ◌++◌, Option, codes}
+use Rattle.std.specs.Fmt.{decimal}
+use Rattle.std.specs.Io.KnownBytes.{Appends, Keeps}
+use Rattle.davsvn_run.specs.declared.end.End.{End}
+use Rattle.davsvn_run.specs.declared.end.End.TheVariants.{Well, Usage, BadFile, BrokeOff, ReadFault, WriteFault, FileFault, NoMemory, OtherRight}
+use Rattle.davsvn_run.specs.Runs.{TookFront}
+
+-- no two ends of different kinds have one number
+abbrev pub number_of : End → ℕ
+number_of Well = 0
+number_of Usage = 1
+number_of (BadFile name line) = 2
+number_of BrokeOff = 3
+number_of ReadFault = 4
+number_of WriteFault = 5
+number_of (FileFault name) = 6
+number_of NoMemory = 8
+number_of OtherRight = 9
+
+abbrev pub line_of : End → List ℕ
+line_of Well = []
+line_of Usage = codes "davsvn: usage\n"
+line_of (BadFile name line) = codes "davsvn: " ++ name ++ codes ": line " ++ decimal line ++ codes "\n"
+line_of BrokeOff = codes "davsvn: input broke off\n"
+line_of ReadFault = codes "davsvn: read fault\n"
+line_of WriteFault = codes "davsvn: write fault\n"
+line_of (FileFault name) = codes "davsvn: file fault: " ++ name ++ codes "\n"
+line_of NoMemory = codes "davsvn: no memory\n"
+line_of OtherRight = []
+
+-- the sink took the line, or nothing for want of memory, or some first bytes of it where its count rose
+abbrev pub TookLine : Option (List ℕ) → Option (List ℕ) → List ℕ → Type 0 → Type 0
+TookLine old new line rose = Appends old new line ⊎ Keeps old new ⊎ (rose × TookFront old new line)
