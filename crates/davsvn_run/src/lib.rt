@@ -12,7 +12,7 @@ mod options;
 mod pipe;
 #[cfg(test)]
 mod reply_tests;
-mod run;
+mod running;
 #[cfg(test)]
 mod run_tests;
 mod status;
@@ -22,7 +22,7 @@ mod words;
 mod work;
 mod world;
 
-pub use run::run;
+pub use running::run;
 pub use status::Status;
 pub use words::script_of;
 pub use world::World;

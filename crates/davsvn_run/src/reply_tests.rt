@@ -1,4 +1,4 @@
-use crate::run::run;
+use crate::running::run;
 use crate::world::World;
 use dsv_base::Bytes;
 use dsv_outside::{MemClock, MemFiles, MemKeeper, MemSink, MemSource};

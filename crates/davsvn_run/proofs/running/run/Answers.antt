@@ -2,7 +2,7 @@ use Rattle.std.proofs.Common.{refl}
 use Rattle.davsvn_run.specs.Commands.{command}
 use Rattle.davsvn_run.proofs.RunLemmas.{says_usage}
 use Rattle.davsvn_run.proofs.WholeRuns.{whole_run}
-use Rattle.davsvn_run.proofs.run.run.Goals as goal
+use Rattle.davsvn_run.proofs.running.run.Goals as goal
 
 pub returns : goal.returns
 returns g c =
