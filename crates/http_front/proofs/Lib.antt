@@ -10,5 +10,6 @@ pub mod SectionLemmas
 pub mod ContentLemmas
 pub mod AdvanceLemmas
 pub mod Laws
+pub mod RefusalLemmas
 pub mod KeptLemmas
 pub mod Cuttings

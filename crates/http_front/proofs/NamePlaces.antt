@@ -1,7 +1,7 @@
 -- Names and their places: one more, and a user that is found by the name.
 use Rattle.std.proofs.Common.{◌≡◌, ℕ, suc, ◌+◌, ◌<◌, Bool, true, false, ◌&&◌, cond, ◌||◌, List, [], ◌∷◌, ◌++◌, length, get_or, Some, None, refl, ap, sym, subst, ◌∙◌, arith}
 use Rattle.std.specs.BTreeMap.{insert_entry}
-use Rattle.std.specs.List.{list_any, position_from, IsDistinct, AllByRecursion}
+use Rattle.std.specs.List.{list_any, list_all, position_from, IsDistinct, AllByRecursion}
 use Rattle.std.specs.Map.{lookup}
 use Rattle.std.specs.Option.{is_some}
 use Rattle.std.specs.Str.{bytes_eq}
@@ -9,10 +9,11 @@ use Rattle.std.proofs.lemmas.Slice.Eq.{bytes_eq-Decides}
 use Rattle.std.proofs.lemmas.Cmp.{nat_list_eq_equiv}
 use Rattle.std.proofs.lemmas.Map.Keys.{IsDistinct-push}
 use Rattle.std.proofs.lemmas.Map.Text.{is_eq-slice_cmp}
+use Rattle.dsv_base.specs.Names.{is_user_name}
 use Rattle.dsv_base.proofs.TextMaps.{order, at, lookup-inserted}
 use Rattle.http_front.specs.declared.user.User.{User}
 use Rattle.http_front.specs.Logins.{is_user}
-use Rattle.http_front.specs.UsersFile.{names}
+use Rattle.http_front.specs.UsersFile.{names, AreNamed}
 
 -- ---- the first place of a name
 
@@ -82,6 +83,33 @@ places_more text old new users all u key place is fresh last made more q before 
 pub distinct_more : (users all : List User) (u : User) → list_any (bytes_eq u.name) (names users) ≡ false → all ≡ users ++ u ∷ [] → IsDistinct bytes_eq (names users) → IsDistinct bytes_eq (names all)
 distinct_more users all u fresh more before =
     subst (IsDistinct bytes_eq) (sym (ap names more ∙ names_more users u)) (IsDistinct-push nat_list_eq_equiv (names users) u.name before fresh)
+
+-- ---- names of the grammar
+
+both : (a b : Bool) → (a && b) ≡ true → (a ≡ true) × (b ≡ true)
+both true true h = (refl, refl)
+both true false h = cc
+both false b h = cc
+
+named_push : (ns : List (List ℕ)) (name : List ℕ) → list_all is_user_name ns ≡ true → is_user_name name ≡ true → list_all is_user_name (ns ++ name ∷ []) ≡ true
+named_push [] name all is = rw is refl
+named_push (n ∷ ns) name all is =
+    let parts = both (is_user_name n) (list_all is_user_name ns) all in
+    rw parts.0 (named_push ns name parts.1 is)
+
+pub named_more : (users all : List User) (u : User) → is_user_name u.name ≡ true → all ≡ users ++ u ∷ [] → AreNamed users → AreNamed all
+named_more users all u is more before =
+    subst (λ ns. list_all is_user_name ns ≡ true) (sym (ap names more ∙ names_more users u)) (named_push (names users) u.name before is)
+
+-- a name that is found among them is of the grammar
+pub found_named : (name : List ℕ) (n : ℕ) (ns : List (List ℕ)) (at : ℕ) → list_all is_user_name ns ≡ true → position_from (bytes_eq name) n ns ≡ Some at → is_user_name name ≡ true
+found_named name n [] at all h = absurd (cc h)
+found_named name n (m ∷ ns) at all h =
+    let parts = both (is_user_name m) (list_all is_user_name ns) all in
+    elim (bytes_eq name m) as (λ v. bytes_eq name m ≡ v → is_user_name name ≡ true) [
+      | true ↦ λ e. ap is_user_name ((bytes_eq-Decides name m).0 e) ∙ parts.0
+      | false ↦ λ e. found_named name (n + 1) ns at parts.1 (rw e at h)
+    ] refl
 
 -- ---- a user that is found by the name
 

@@ -1,5 +1,5 @@
 -- What the next answer says of a front.
-use Rattle.std.specs.Prelude.{◌≡◌, ℕ, ◌⊎◌, List, if◌then◌else◌}
+use Rattle.std.specs.Prelude.{◌≡◌, ℕ, ⊤, ◌⊎◌, List, if◌then◌else◌}
 use Rattle.http_front.specs.declared.refusal.Refusal as refusal
 use Rattle.http_front.specs.declared.refusal.Refusal.TheVariants as refusals
 use Rattle.http_front.specs.declared.request.Request as request
@@ -9,6 +9,7 @@ use Rattle.http_front.specs.declared.user.User.{User}
 use Rattle.http_front.specs.declared.phase.Phase.{Phase}
 use Rattle.http_front.specs.declared.phase.Phase.TheVariants.{Open, Finished, Stopped}
 use Rattle.http_front.specs.Fronts.{FrontState, IsBounded, given, stopped}
+use Rattle.http_front.specs.Logins.{IsNamed}
 use Rattle.http_front.specs.Messages.{IsFirst}
 use Rattle.http_front.specs.Outcomes.{Whole, Part, Refused}
 
@@ -58,3 +59,12 @@ abbrev pub refusal_next : refusal.Refusal → ℕ → Next
 refusal_next refusals.BadMessage at = BadMessage at
 refusal_next refusals.HeadTooLarge at = HeadTooLarge
 refusal_next refusals.BodyTooLarge at = BodyTooLarge
+
+-- whoever a given request comes from has a name of the users grammar
+abbrev pub ComesNamed : Next → Type 0
+ComesNamed (Request r) = IsNamed r.login
+ComesNamed More = ⊤
+ComesNamed (BadMessage at) = ⊤
+ComesNamed HeadTooLarge = ⊤
+ComesNamed BodyTooLarge = ⊤
+ComesNamed NoMemory = ⊤

@@ -1,12 +1,13 @@
 -- Who the fields of a request say that it comes from: the field Authorization (RFC 9110, section 11.6.2)
 -- under the scheme Basic (RFC 7617).
-use Rattle.std.specs.Prelude.{ℕ, Bool, ◌&&◌, List, [], ◌∷◌, map, codes, Option, None, Some, if◌then◌else◌}
+use Rattle.std.specs.Prelude.{ℕ, ⊤, IsTrue, Bool, ◌&&◌, List, [], ◌∷◌, map, codes, Option, None, Some, if◌then◌else◌}
 use Rattle.std.specs.List.{filter, position_from}
 use Rattle.std.specs.Str.{bytes_eq, str_eq_ignore_ascii_case}
 use Rattle.base64.specs.Engines.{standard}
 use Rattle.base64.specs.GeneralPurpose.{decoded_of}
 use Rattle.dsv_base.specs.declared.field.Field.{Field}
 use Rattle.dsv_base.specs.Lines.{cut_at}
+use Rattle.dsv_base.specs.Names.{is_user_name}
 use Rattle.http_front.specs.declared.login.Login.{Login}
 use Rattle.http_front.specs.declared.login.Login.TheVariants.{Nobody, User, Wrong}
 use Rattle.http_front.specs.declared.user.User as user
@@ -61,3 +62,9 @@ login_by users (value ∷ next ∷ more) = Wrong
 -- without a field Authorization nobody; with one, the user that it names by that user's password; else it is wrong
 unfoldable pub login_of : List user.User → List Field → Login
 login_of users fields = login_by users (authorizations fields)
+
+-- where a request comes from a user, the name is one of the users grammar
+abbrev pub IsNamed : Login → Type 0
+IsNamed Nobody = ⊤
+IsNamed (User person) = IsTrue (is_user_name person.name)
+IsNamed Wrong = ⊤

@@ -1,6 +1,6 @@
 -- The users file.
-use Rattle.std.specs.Prelude.{ℕ, ◌≡◌, ⊤, Bool, true, false, ◌&&◌, ◌||◌, not, nat_le, List, [], ◌∷◌, length, map, Option, None, Some, Result, Ok, Err, if◌then◌else◌}
-use Rattle.std.specs.List.{filter, filter_map, find, list_any, enumerate_from}
+use Rattle.std.specs.Prelude.{ℕ, ◌≡◌, ⊤, IsTrue, Bool, true, false, ◌&&◌, ◌||◌, not, nat_le, List, [], ◌∷◌, length, map, Option, None, Some, Result, Ok, Err, if◌then◌else◌}
+use Rattle.std.specs.List.{filter, filter_map, find, list_any, list_all, enumerate_from}
 use Rattle.std.specs.Option.{option_map}
 use Rattle.std.specs.Str.{bytes_eq}
 use Rattle.dsv_base.specs.Lines.{cut_at}
@@ -37,6 +37,10 @@ user_lines number lines = filter (λ line. not (is_skipped line.1)) (enumerate_f
 
 abbrev pub names : List User → List (List ℕ)
 names users = map (λ u. u.name) users
+
+-- each user has a name of the users grammar
+abbrev pub AreNamed : List User → Type 0
+AreNamed users = IsTrue (list_all is_user_name (names users))
 
 -- after these users a line is refused that is no user's, that has the name of one of them, or that is one too many
 abbrev pub is_refused : List User → Option User → Bool

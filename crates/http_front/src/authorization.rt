@@ -1,7 +1,7 @@
 ghost use Rattle.std.specs.Prelude.{◌≡◌, IfOk, option_copied};
 ghost use Rattle.base64.specs.Engines.{standard};
 ghost use Rattle.base64.specs.GeneralPurpose.{decoded_of};
-ghost use Rattle.http_front.specs.Logins.{token_of, credentials_of, login_of, login_with};
+ghost use Rattle.http_front.specs.Logins.{token_of, credentials_of, login_of, login_with, IsNamed};
 
 use crate::fields::{has_field, is_named};
 use crate::login::Login;
@@ -14,7 +14,8 @@ use std::alloc::Global;
 /// Who a request with these fields comes from. The one error is want of memory.
 #[tactic(auto, unfolding(crate::specs::Logins::login_of))]
 pub(crate) fn login_of(alloc: Global, users: &Users, fields: &[Field]) -> Result<Login, NoMemory>
-    ensures { IfOk result (λ login. login ≡ login_of users.now fields.now) }
+    ensures value { IfOk result (λ login. login ≡ login_of users.now fields.now) }
+    ensures named { IfOk result IsNamed }
 {
     let mut rest = fields;
     'fields: while let [field, after @ ..] = rest {
@@ -32,7 +33,8 @@ pub(crate) fn login_of(alloc: Global, users: &Users, fields: &[Field]) -> Result
 
 /// The user that the value is the credentials of.
 fn login_with(alloc: Global, users: &Users, value: &[u8]) -> Result<Login, NoMemory>
-    ensures { IfOk result (λ login. login ≡ login_with users.now (credentials_of value.now)) }
+    ensures value { IfOk result (λ login. login ≡ login_with users.now (credentials_of value.now)) }
+    ensures named { IfOk result IsNamed }
 {
     let Some(token) = token_of(value) else {
         return Ok(Login::Wrong);

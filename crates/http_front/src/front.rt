@@ -1,8 +1,9 @@
 ghost use Rattle.std.specs.Prelude.{◌≡◌, ◌≤◌, ◌+◌, ℕ, List, length, OnOk, OnErr, IfOk};
 ghost use Rattle.http_front.specs.Advances.{IsAlways, request_with};
-ghost use Rattle.http_front.specs.Answers.{NextSays, phase_after, refusal_next};
+ghost use Rattle.http_front.specs.Answers.{NextSays, ComesNamed, phase_after, refusal_next};
 ghost use Rattle.http_front.specs.Fronts.{new_front, fed, given, stopped};
 ghost use Rattle.http_front.specs.Kept.{IsFew, unread};
+ghost use Rattle.http_front.specs.Logins.{IsNamed};
 ghost use Rattle.http_front.specs.Limits.{most_message_bytes};
 ghost use Rattle.http_front.specs.Messages.{is_last_of};
 ghost use Rattle.http_front.specs.Outcomes.{Whole, Refused};
@@ -88,7 +89,7 @@ impl Front {
     /// The request at the front, or what its bytes are else.
     ///
     /// A request is taken out of the front. Who it comes from is said by its field Authorization
-    /// and `users` (RFC 7617). It is the connection's last where it is of HTTP/1.0, has `close`
+    /// and `users` (RFC 7617), whose names are of the users grammar. It is the connection's last where it is of HTTP/1.0, has `close`
     /// among the words of its Connection fields, or is the 1,000,000th: then all later bytes are
     /// dropped, and each later answer is [`Next::More`].
     ///
@@ -97,7 +98,8 @@ impl Front {
     /// soon as it is certain, whatever may follow, and then at each later call. Want of memory
     /// leaves the front as it was.
     pub fn next(&mut self, users: &Users) -> Next
-        ensures { NextSays users.now self.old self.new result }
+        ensures says { NextSays users.now self.old self.new result }
+        ensures named { ComesNamed result }
     {
         match self.phase {
             Phase::Finished => Next::More,
@@ -116,7 +118,8 @@ impl Front {
 
     fn next_open(&mut self, users: &Users) -> Next
         requires { self.old.phase ≡ Open }
-        ensures { NextSays users.now self.old self.new result }
+        ensures says { NextSays users.now self.old self.new result }
+        ensures named { ComesNamed result }
     {
         let progress = mem::replace(&mut self.progress, unread());
         let rest = rest_from(self.bytes.as_slice(), self.start);
@@ -135,7 +138,8 @@ impl Front {
     fn give(&mut self, users: &Users, head: Head, body: Bytes, len: usize) -> Next
         requires open { self.old.phase ≡ Open }
         requires first { IsAlways self.old.rest (λ users number. Whole (request_with users number head body) len) }
-        ensures { NextSays users.now self.old self.new result }
+        ensures says { NextSays users.now self.old self.new result }
+        ensures named { ComesNamed result }
     {
         match make_request(self.alloc, users, self.number, head, body) {
             Ok(request) => {
@@ -173,7 +177,8 @@ impl Front {
     fn stop(&mut self, why: Refusal) -> Next
         requires open { self.old.phase ≡ Open }
         requires first { IsAlways self.old.rest (λ users number. Refused why) }
-        ensures { (users : List User) → NextSays users self.old self.new result }
+        ensures says { (users : List User) → NextSays users self.old self.new result }
+        ensures named { ComesNamed result }
     {
         self.phase = Phase::Stopped(why);
         refusal_next(why, self.at)
@@ -191,7 +196,8 @@ fn unread() -> Progress
 }
 
 fn refusal_next(why: Refusal, at: u64) -> Next
-    ensures { result ≡ refusal_next why at }
+    ensures value { result ≡ refusal_next why at }
+    ensures named { ComesNamed result }
 {
     match why {
         Refusal::BadMessage => Next::BadMessage { at },
@@ -218,7 +224,8 @@ fn make_request(
     head: Head,
     body: Bytes,
 ) -> Result<Request, NoMemory>
-    ensures { IfOk result (λ r. r ≡ request_with users.now number head body) }
+    ensures value { IfOk result (λ r. r ≡ request_with users.now number head body) }
+    ensures named { IfOk result (λ r. IsNamed r.login) }
 {
     let login = login_of(alloc, users, head.fields.get())?;
     let last = is_last_of(number, head.minor, head.fields.get());

@@ -1,8 +1,9 @@
-ghost use Rattle.std.specs.Prelude.{◌≡◌, ◌<◌, ◌∷◌, ◌++◌, [], false, length, IfOk};
+ghost use Rattle.std.specs.Prelude.{◌≡◌, ◌<◌, ◌∷◌, ◌++◌, [], false, length, IfOk, IfSome, IsTrue};
 ghost use Rattle.std.specs.List.{list_any, position_from};
 ghost use Rattle.std.specs.Str.{bytes_eq};
+ghost use Rattle.dsv_base.specs.Names.{is_user_name};
 ghost use Rattle.http_front.specs.Logins.{number_of};
-ghost use Rattle.http_front.specs.UsersFile.{most_users, names};
+ghost use Rattle.http_front.specs.UsersFile.{most_users, names, AreNamed};
 
 use crate::user::User;
 use dsv_base::NoMemory;
@@ -14,7 +15,7 @@ use std::marker::Model;
 pub(crate) const MOST_USERS: usize = 10_000;
 
 /// The users who may log in. Contracts see them as the list of the users, in the file's order.
-/// They have no Debug, which would show passwords.
+/// Each name is what [`dsv_base::is_user_name`] takes, and no two are the same. They have no Debug, which would show passwords.
 #[derive(Drop)]
 pub struct Users {
     users: Vec<User>,
@@ -47,6 +48,7 @@ impl Users {
     /// These users and one more, who has a name of its own. The one error is want of memory.
     pub(crate) fn with(self, alloc: Global, user: User) -> Result<Users, NoMemory>
         requires room { length self < most_users }
+        requires named { IsTrue (is_user_name user.name) }
         requires fresh { list_any (bytes_eq user.name) (names self) ≡ false }
         ensures { IfOk result (λ users. users ≡ self ++ user ∷ []) }
     {
@@ -58,6 +60,14 @@ impl Users {
         places.insert(name, users.len())?;
         users.push(user)?;
         Ok(Users { users, places })
+    }
+
+    /// Says to callers, who see no more of the users than the list, that each of its names is one
+    /// of the users grammar.
+    pub fn are_named(&self)
+        ensures { AreNamed self.now }
+    {
+        let _users = &self.users;
     }
 
     pub(crate) fn len(&self) -> usize
@@ -82,7 +92,8 @@ impl Users {
 
     /// The number of the user with this name and this password: the place in the file, from 1.
     pub(crate) fn number_of(&self, name: &[u8], password: &[u8]) -> Option<u32>
-        ensures { result ≡ number_of self.now name.now password.now }
+        ensures value { result ≡ number_of self.now name.now password.now }
+        ensures named { IfSome result (λ number. IsTrue (is_user_name name.now)) }
     {
         let Some(place) = self.place(name) else {
             return None;

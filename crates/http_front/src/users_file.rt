@@ -1,5 +1,6 @@
-ghost use Rattle.std.specs.Prelude.{◌≡◌, ◌≤◌, ◌++◌, false, true, length, IfOk, IfErr, OnOk, option_to_list};
+ghost use Rattle.std.specs.Prelude.{◌≡◌, ◌≤◌, ◌++◌, false, true, length, IfOk, IfErr, IfSome, IsTrue, OnOk, option_to_list};
 ghost use Rattle.dsv_base.specs.Gives.{Gives};
+ghost use Rattle.dsv_base.specs.Names.{is_user_name};
 ghost use Rattle.http_front.specs.UsersFile.{user_of_line, is_refused, users_of, is_no_memory, SaysRefused};
 
 use crate::user::User;
@@ -13,7 +14,8 @@ const MOST_PASSWORD_BYTES: usize = 255;
 
 /// The user of a line, if it is one's.
 fn user_of_line(alloc: Global, line: &[u8]) -> Result<Option<User>, NoMemory>
-    ensures { IfOk result (λ user. user ≡ user_of_line line.now) }
+    ensures value { IfOk result (λ user. user ≡ user_of_line line.now) }
+    ensures named { IfOk result (λ user. IfSome user (λ u. IsTrue (is_user_name u.name))) }
 {
     let Some((name, password)) = cut_at(line, b':') else {
         return Ok(None);

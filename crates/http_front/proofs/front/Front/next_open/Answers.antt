@@ -12,8 +12,8 @@ stop-requires-clause-first c =
     subst (λ t. IsAlways t (λ u n. Refused c.in-Ok-Rejects.why)) (c.rest_from-rest.ensures ∙ ap (drop c.self.inside.start) c.as_slice.ensures.value)
     (subst (AdvanceSays c.rest_from-rest.result.now) c.in-Ok-Rejects.field-0-is c.in-Ok-Rejects.ensures)
 
-pub returns-in-Ok-Needs : goal.returns-in-Ok-Needs
-returns-in-Ok-Needs c =
+pub returns-in-Ok-Needs-clause-says : goal.returns-in-Ok-Needs-clause-says
+returns-in-Ok-Needs-clause-says c =
     let says : AdvanceSays c.rest_from-rest.result.now (Needs c.in-Ok-Needs.progress) = subst (AdvanceSays c.rest_from-rest.result.now) c.in-Ok-Needs.field-0-is c.in-Ok-Needs.ensures in
     let first : IsAlways (drop c.self.inside.start c.self.inside.bytes.items) (λ u n. Part) =
     subst (λ t. IsAlways t (λ u n. Part)) (c.rest_from-rest.ensures ∙ ap (drop c.self.inside.start) c.as_slice.ensures.value) says.0 in
@@ -24,5 +24,5 @@ returns-in-Ok-Needs c =
           (ap (λ (s : FrontState). s.phase) c.self.view_is ∙ c.requires) first));
     }
 
-pub returns-in-Ok-Rejects : goal.returns-in-Ok-Rejects
-returns-in-Ok-Rejects c = subst (λ s. NextSays c.args.users.now s c.stop.new.self c.stop.result) c.self.view_is (c.stop.ensures c.args.users.now)
+pub returns-in-Ok-Rejects-clause-says : goal.returns-in-Ok-Rejects-clause-says
+returns-in-Ok-Rejects-clause-says c = subst (λ s. NextSays c.args.users.now s c.stop.new.self c.stop.result) c.self.view_is (c.stop.ensures.says c.args.users.now)

@@ -9,5 +9,6 @@ unfolding IsDistinct
 invariant_of-result c = record {
   places = λ name. rw (c.new-2.ensures.empty, c.new.ensures.items) refl;
   distinct = subst (λ users. IsDistinct bytes_eq (names users)) (sym c.new.ensures.items) tt;
+  named = rw c.new.ensures.items refl;
   few = rw c.new.ensures.items (omega arith);
 }
