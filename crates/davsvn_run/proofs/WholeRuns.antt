@@ -1,100 +1,25 @@
 -- A run of `pipe` over whole inputs, without a fault, is done or wants memory.
-use Rattle.std.proofs.Common.{◌≡◌, ◌⊎◌, ℕ, ◌+◌, Bool, true, false, List, [], ◌∷◌, ◌++◌, drop, Option, None, Some, Result, Ok, Err, refl, sym, ap, ◌∙◌, subst, inl, inr, append-nil}
-use Rattle.std.specs.Prelude.{MatchBool}
+use Rattle.std.proofs.Common.{◌≡◌, ◌⊎◌, ℕ, ◌+◌, Bool, true, false, List, ◌++◌, Option, None, Some, Result, Ok, Err, refl, sym, ap, ◌∙◌, subst, inl, inr, append-nil}
 use Rattle.std.specs.Io.KnownBytes.{Consumes}
 use Rattle.authz_file.specs.declared.rules.Rules.{Rules}
 use Rattle.authz_file.specs.Resolving.{rules_of}
-use Rattle.dav_machine.specs.Histories.{Entry}
-use Rattle.dav_machine.specs.States.{State}
 use Rattle.dav_serve.specs.Points.{Point}
 use Rattle.dav_serve.specs.Serves.{Leaves, NothingLeft}
 use Rattle.dsv_outside.specs.FileTables.{text_named}
 use Rattle.dsv_outside.specs.declared.serve_end.ServeEnd.TheVariants as serve_end
-use Rattle.http_front.specs.declared.refusal.Refusal.{Refusal}
-use Rattle.http_front.specs.declared.request.Request.{Request}
 use Rattle.http_front.specs.declared.user.User.{User}
-use Rattle.http_front.specs.Messages.{IsFirst, MessagesFrom, Messages, EndSays, End, LastGiven, Left, RefusedAt}
-use Rattle.http_front.specs.Outcomes.{Outcome, Whole, Part, Refused}
-use Rattle.http_front.specs.Sections.{is_idle}
+use Rattle.http_front.specs.Messages.{Messages, End, LastGiven, Left, RefusedAt}
 use Rattle.http_front.specs.UsersFile.{users_of}
-use Rattle.http_front.proofs.Laws.{first_unique}
+use Rattle.http_front.proofs.OneReading.{messages_same}
 use Rattle.rev_trees.specs.Scripts.{repository_from}
 use Rattle.rev_trees.specs.Trees.{Repository}
 use Rattle.davsvn_run.specs.declared.end.End.{End as run_end}
 use Rattle.davsvn_run.specs.declared.end.End.TheVariants as ends
 use Rattle.davsvn_run.specs.Commands.{Command, Pipe, AccessOf, FileNames}
 use Rattle.davsvn_run.specs.Opening.{Contents, FileIs}
-use Rattle.davsvn_run.specs.Runs.{point, point_after, Opens, Served, IsBadFile, PipeSays, WorkSays, ForPipe}
+use Rattle.davsvn_run.specs.Runs.{point, Opens, Served, IsBadFile, PipeSays, WorkSays, ForPipe}
 use Rattle.davsvn_run.specs.Statuses.{number_of}
 use Rattle.davsvn_run.specs.Whole.{IsDone, IsWhole, AreWhole}
-
--- ---- the end of a connection's bytes is one
-
-abbrev is_whole : Outcome Request → Bool
-is_whole (Whole r n) = true
-is_whole Part = false
-is_whole (Refused why) = false
-
-abbrev is_part : Outcome Request → Bool
-is_part (Whole r n) = false
-is_part Part = true
-is_part (Refused why) = false
-
-abbrev request_in : Request → Outcome Request → Request
-request_in other (Whole r n) = r
-request_in other Part = other
-request_in other (Refused why) = other
-
-abbrev size_in : Outcome Request → ℕ
-size_in (Whole r n) = n
-size_in Part = 0
-size_in (Refused why) = 0
-
-abbrev why_in : Refusal → Outcome Request → Refusal
-why_in other (Whole r n) = other
-why_in other Part = other
-why_in other (Refused why) = why
-
-module _ (users : List User) where
-  none_ends : (number at : ℕ) (bytes : List ℕ) (request : Request) (n : ℕ) (end : End) → IsFirst users number bytes (Whole request n) → EndSays users number at bytes end → ⊥
-  none_ends number at bytes request n LastGiven first ended = ended
-  none_ends number at bytes request n (Left rest) first ended =
-      let never : true ≡ false = ap is_whole (first_unique users number bytes (Whole request n) Part first ended.0) in absurd (cc)
-  none_ends number at bytes request n (RefusedAt why offset) first ended =
-      let never : true ≡ false = ap is_whole (first_unique users number bytes (Whole request n) (Refused why) first ended.0) in absurd (cc)
-
-  ends_same : (number at : ℕ) (bytes : List ℕ) (one other : End) → EndSays users number at bytes one → EndSays users number at bytes other → one ≡ other
-  ends_same number at bytes LastGiven other x y = absurd x
-  ends_same number at bytes (Left rest) LastGiven x y = absurd y
-  ends_same number at bytes (Left rest) (Left left) x y = ap Left (x.1 ∙ sym y.1)
-  ends_same number at bytes (Left rest) (RefusedAt why offset) x y =
-      let never : true ≡ false = ap is_part (first_unique users number bytes Part (Refused why) x.0 y.0) in absurd (cc)
-  ends_same number at bytes (RefusedAt why offset) LastGiven x y = absurd y
-  ends_same number at bytes (RefusedAt why offset) (Left left) x y =
-      let never : false ≡ true = ap is_part (first_unique users number bytes (Refused why) Part x.0 y.0) in absurd (cc)
-  ends_same number at bytes (RefusedAt why offset) (RefusedAt cause place) x y =
-      let same : why ≡ cause = ap (why_in why) (first_unique users number bytes (Refused why) (Refused cause) x.0 y.0) in
-      let here : offset ≡ place = x.1 ∙ sym y.1 in
-      λ i. RefusedAt (same i) (here i)
-
-  end_unique : (number at : ℕ) (bytes : List ℕ) (some all : List Request) (one other : End) → MessagesFrom users number at bytes some one → MessagesFrom users number at bytes all other → one ≡ other
-  end_unique number at bytes [] [] one other x y = ends_same number at bytes one other x y
-  end_unique number at bytes [] (a ∷ others) one other x y = absurd (none_ends number at bytes a y.0 one y.1 x)
-  end_unique number at bytes (r ∷ rs) [] one other x y = absurd (none_ends number at bytes r x.0 other x.1 y)
-  end_unique number at bytes (r ∷ rs) (a ∷ others) one other x y =
-      let whole : Whole r x.0 ≡ Whole a y.0 = first_unique users number bytes (Whole r x.0) (Whole a y.0) x.1 y.1 in
-      let request : r ≡ a = ap (request_in r) whole in
-      let size : x.0 ≡ y.0 = ap size_in whole in
-      let rest : MatchBool a.last ((rs ≡ []) × (one ≡ LastGiven)) (MessagesFrom users (number + 1) (at + y.0) (drop y.0 bytes) rs one)
-      = subst (λ (q : Request). MatchBool q.last ((rs ≡ []) × (one ≡ LastGiven)) (MessagesFrom users (number + 1) (at + y.0) (drop y.0 bytes) rs one)) request
-      (subst (λ (n : ℕ). MatchBool r.last ((rs ≡ []) × (one ≡ LastGiven)) (MessagesFrom users (number + 1) (at + n) (drop n bytes) rs one)) size x.2) in
-      either a.last (end_unique (number + 1) (at + y.0) (drop y.0 bytes) rs others one other) rest y.2 where
-        either : (last : Bool) → (MessagesFrom users (number + 1) (at + y.0) (drop y.0 bytes) rs one → MessagesFrom users (number + 1) (at + y.0) (drop y.0 bytes) others other → one ≡ other)
-            → MatchBool last ((rs ≡ []) × (one ≡ LastGiven)) (MessagesFrom users (number + 1) (at + y.0) (drop y.0 bytes) rs one)
-            → MatchBool last ((others ≡ []) × (other ≡ LastGiven)) (MessagesFrom users (number + 1) (at + y.0) (drop y.0 bytes) others other)
-            → one ≡ other
-        either true hypothesis ended closed = ended.1 ∙ sym closed.1
-        either false hypothesis next later = hypothesis next later
 
 -- all that was left was taken, where nothing is left
 taken_whole : (input bytes : List ℕ) (left : Option (List ℕ)) → Consumes (Some input) left bytes → NothingLeft (Some input) left → bytes ≡ input
@@ -132,7 +57,7 @@ module _ (files : List (List ℕ × List ℕ)) where
       let is_input : all.bytes ≡ input = taken_whole input all.bytes q.left all.talks.consumed s.serves.2 in
       let told : Messages users input all.requests all.end =
       subst (λ (us : List User). Messages us input all.requests all.end) same (subst (λ (bs : List ℕ). Messages s.users bs all.requests all.end) is_input all.messages) in
-      let end_is : all.end ≡ whole.1 = end_unique users 0 0 input all.requests whole.0 all.end whole.1 told whole.2 in
+      let end_is : all.end ≡ whole.1 = (messages_same users 0 0 input all.requests whole.0 all.end whole.1 told whole.2).1 in
       done whole.1 whole.3 (subst (λ (e : End). Leaves false e) end_is all.ends) where
         done : (end : End) → IsDone end → Leaves false end → ⊥
         done LastGiven fine broken = broken

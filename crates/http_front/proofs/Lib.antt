@@ -13,3 +13,4 @@ pub mod Laws
 pub mod RefusalLemmas
 pub mod KeptLemmas
 pub mod Cuttings
+pub mod OneReading

@@ -17,3 +17,4 @@ pub mod Fronts
 pub mod Answers
 pub mod Kept
 pub mod Runs
+pub mod MessageLaws

@@ -15,6 +15,7 @@ mod front;
 mod head;
 mod heads;
 mod login;
+mod message_laws;
 mod next;
 mod phase;
 mod place;
@@ -34,6 +35,10 @@ mod users_file;
 pub use dsv_base::{Field, Person};
 pub use front::Front;
 pub use login::Login;
+pub use message_laws::{
+    cuts_dont_matter, later_cuts_dont_matter, one_outcome, one_reading, part_is_within,
+    refused_stays, whole_is_within, whole_stays,
+};
 pub use next::Next;
 pub use request::Request;
 pub use users::Users;
@@ -42,5 +47,3 @@ pub use users_file::read_users;
 
 #[cfg(test)]
 mod tests;
-#[cfg(test)]
-mod users_tests;
