@@ -2,7 +2,7 @@
 //! Book, chapter "Server Configuration", "Path-Based Authorization").
 #![tactic(auto)]
 
-mod copying;
+mod copies;
 mod demand;
 mod matching;
 mod order;

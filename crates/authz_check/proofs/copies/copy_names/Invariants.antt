@@ -1,5 +1,5 @@
 use Rattle.std.proofs.Common.{◌≡◌, take}
-use Rattle.authz_check.proofs.copying.copy_names.Given as goal
+use Rattle.authz_check.proofs.copies.copy_names.Given as goal
 
 -- the copies so far
 abbrev pub invariant-names : goal.invariant-names
