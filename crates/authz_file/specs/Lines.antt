@@ -1,8 +1,8 @@
 -- The lines of a rules file: without those that are skipped, and each with the lines that continue it.
 use Rattle.std.specs.Prelude.{ℕ, ◌+◌, Bool, ◌||◌, not, List, [], ◌∷◌, ◌++◌, if◌then◌else◌}
 use Rattle.dsv_base.specs.TextFiles.{begins_with, is_skipped, without_front}
-use Rattle.authz_file.specs.declared.line.Line.{Line}
-use Rattle.authz_file.specs.declared.line.Line.TheVariants.{Head, Body, Stray}
+use Rattle.authz_file.specs.declared.joined_line.JoinedLine.{JoinedLine}
+use Rattle.authz_file.specs.declared.joined_line.JoinedLine.TheVariants.{Head, Body, Stray}
 
 -- it begins with a blank: where it isn't skipped, it continues a line
 abbrev pub is_indented : List ℕ → Bool
@@ -22,7 +22,7 @@ continued [] = []
 continued (line ∷ rest) = line_adds line (continued rest)
 
 -- what a line is: nothing where it is skipped or continues another, which it may where one is `begun`
-abbrev pub line_gives : Bool → ℕ → List ℕ → List ℕ → List Line
+abbrev pub line_gives : Bool → ℕ → List ℕ → List ℕ → List JoinedLine
 line_gives begun number line more =
     if is_skipped line then [] else
     if is_indented line then (if begun then [] else Stray number ∷ []) else
@@ -33,6 +33,6 @@ abbrev pub opens : Bool → List ℕ → Bool
 opens begun line = if is_skipped line || is_indented line then begun else not (is_head line)
 
 -- the lines that aren't skipped, each with those that continue it, numbered from the given number
-unfoldable pub joined_lines : Bool → ℕ → List (List ℕ) → List Line
+unfoldable pub joined_lines : Bool → ℕ → List (List ℕ) → List JoinedLine
 joined_lines begun number [] = []
 joined_lines begun number (line ∷ rest) = line_gives begun number line (continued rest) ++ joined_lines (opens begun line) (number + 1) rest

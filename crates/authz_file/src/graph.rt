@@ -41,7 +41,7 @@ fn word_targets(alloc: Global, book: &Book, words: &[Bytes]) -> Result<List<usiz
 }
 
 /// What the entry at this place names.
-pub fn named_at(graph: &[List<usize>], place: usize) -> &[usize]
+pub(crate) fn named_at(graph: &[List<usize>], place: usize) -> &[usize]
     ensures { result.now ≡ named_at graph.now place }
 {
     match graph.get(place) {
@@ -52,7 +52,7 @@ pub fn named_at(graph: &[List<usize>], place: usize) -> &[usize]
 
 /// Per entry the places of the definitions that its words name. The one error is want of memory.
 #[tactic(auto, unfolding(crate::specs::Groups::targets))]
-pub fn targets(alloc: Global, book: &Book) -> Result<Vec<List<usize>>, NoMemory>
+pub(crate) fn targets(alloc: Global, book: &Book) -> Result<Vec<List<usize>>, NoMemory>
     ensures { IfOk result (λ graph. graph.items ≡ targets book.now) }
 {
     let mut graph = Vec::new(alloc);

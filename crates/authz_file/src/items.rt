@@ -50,7 +50,7 @@ fn items_of(alloc: Global, value: &[u8]) -> Result<Option<List<Bytes>>, NoMemory
 
 /// What a group holds; `None` where an item is no word. The one error is want of memory.
 #[tactic(auto, unfolding(crate::specs::Words::words_of))]
-pub fn words_of(alloc: Global, value: &[u8]) -> Result<Option<List<Bytes>>, NoMemory>
+pub(crate) fn words_of(alloc: Global, value: &[u8]) -> Result<Option<List<Bytes>>, NoMemory>
     ensures { IfOk result (λ words. words ≡ words_of value.now) }
 {
     if value.is_empty() {

@@ -67,7 +67,7 @@ fn listed(alloc: Global, names: BTreeSet<Vec<u8>>) -> Result<List<Bytes>, NoMemo
 /// All users that the entry at this place names, by itself and by way of groups and aliases. The
 /// one error is want of memory.
 #[tactic(auto, unfolding(crate::specs::Groups::names_at))]
-pub fn names_at(
+pub(crate) fn names_at(
     alloc: Global,
     book: &Book,
     graph: &[List<usize>],

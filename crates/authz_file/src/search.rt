@@ -39,7 +39,7 @@ fn add_all(
 }
 
 /// The places that are reached from these, each once. The one error is want of memory.
-pub fn reached_by(
+pub(crate) fn reached_by(
     alloc: Global,
     graph: &[List<usize>],
     start: &[usize],
