@@ -33,7 +33,7 @@ worked_heading = refl
 
 -- the head of revision 1 stands in lines 7 and 8, its property in 9 and 10, and so on
 worked_revision : revision_from 1 7 revision_1 ≡ Ok (record { commit = commit_1; lines = 11 ∷ 13 ∷ []; after = Ok (16, []) })
-unfolding revision_from revision_head revision_line items_from next_item item_from item_after item_of numbers.decimal is_path is_user_name is_property_name is_revision_property is_utf8 chars encode
+unfolding revision_from revision_head revision_line items_from next_item item_from item_after item_of numbers.read_decimal is_path is_user_name is_property_name is_revision_property is_utf8 chars encode
 worked_revision = refl
 
 -- a uuid in upper case; a second head; no end; a change in revision 0
@@ -46,9 +46,9 @@ unfolding repository_from heading_from is_repository_name is_uuid revision_from 
 no_revision = refl
 
 no_end : repository_from (heading ++ codes "revision 0 0 0\n\n") ≡ Err (BadScript 6)
-unfolding repository_from heading_from is_repository_name is_uuid revision_from revision_head revision_line items_from next_item item_from numbers.decimal
+unfolding repository_from heading_from is_repository_name is_uuid revision_from revision_head revision_line items_from next_item item_from numbers.read_decimal
 no_end = refl
 
 change_in_zeroth : repository_from (heading ++ codes "revision 0 0 0\n\nmkdir 2\n/a\nend\n") ≡ Err (BadScript 6)
-unfolding repository_from heading_from is_repository_name is_uuid revision_from revision_head revision_line items_from next_item item_from item_after item_of numbers.decimal is_path is_utf8 chars encode
+unfolding repository_from heading_from is_repository_name is_uuid revision_from revision_head revision_line items_from next_item item_from item_after item_of numbers.read_decimal is_path is_utf8 chars encode
 change_in_zeroth = refl

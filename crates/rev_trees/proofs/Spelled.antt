@@ -48,7 +48,7 @@ is_decimal-written zero h = ap is_decimal (decimal_digit 0 (omega arith))
 is_decimal-written (suc n) h = decimal_of (decimal (suc n)) (digits_written (suc n) h) (decimal_nonempty (suc n) h) (first_decimal (suc n) (omega arith) h)
 
 pub number_back : (most n : ℕ) → n ≤ most → n < 2 ^ 64 → number_from most (decimal n) ≡ Ok n
-unfolding numbers.decimal
+unfolding numbers.read_decimal
 number_back most n fits h =
     rw (is_decimal-written n h, digits_value-decimal own n h) (grind (arith, nat_tests))
 

@@ -2,7 +2,7 @@
 use Rattle.std.specs.Prelude.{ℕ, ◌+◌, ◌-◌, Bool, true, false, List, Option, None, Some, Result, Ok, Err, length, take, drop, nat_eq, nat_le}
 use Rattle.std.specs.List.{starts_with, count_by}
 use Rattle.dsv_base.specs.Lines.{cut_at, cut_line, is_line_feed}
-use Rattle.dsv_base.specs.Numbers.{decimal}
+use Rattle.dsv_base.specs.Numbers.{read_decimal}
 use Rattle.rev_trees.specs.declared.item_fault.ItemFault.{ItemFault}
 use Rattle.rev_trees.specs.declared.item_fault.ItemFault.TheVariants.{Bad, NoMemory}
 use Rattle.rev_trees.specs.declared.script_fault.ScriptFault.{ScriptFault}
@@ -34,7 +34,7 @@ bytes_from count text = ok_where (nat_le count (length text)) (take count text, 
 
 -- a number up to the given one
 abbrev pub number_from : ℕ → List ℕ → Result ℕ ItemFault
-number_from most text = or_bad (decimal most text)
+number_from most text = or_bad (read_decimal most text)
 
 -- no part of a script is longer
 abbrev pub longest : ℕ
