@@ -8,7 +8,7 @@ use Rattle.http_front.specs.Connections.{is_comma}
 use Rattle.dav_replies.specs.declared.allow_kind.AllowKind.{AllowKind}
 use Rattle.dav_replies.specs.declared.refusal.Refusal.{Refusal}
 use Rattle.dav_replies.specs.declared.refusal.Refusal.TheVariants.{WrongMethod, NotInProfile}
-use Rattle.dav_replies.specs.Tables.{allow_list}
+use Rattle.dav_replies.specs.Methods.{allow_list}
 use Rattle.dav_machine.specs.declared.asked.Asked.{Asked}
 use Rattle.dav_machine.specs.declared.asked.Asked.TheVariants.{Options, Get, Head}
 

@@ -5,7 +5,7 @@ use Rattle.dsv_base.specs.declared.field.Field.{Field}
 use Rattle.dsv_base.specs.declared.reply.Reply.{Reply}
 use Rattle.dav_replies.specs.declared.allow_kind.AllowKind.TheVariants as allow
 use Rattle.dav_replies.specs.Replies.{field_of}
-use Rattle.dav_replies.specs.Tables.{allow_list}
+use Rattle.dav_replies.specs.Methods.{allow_list}
 
 abbrev pub content_type : List ℕ → Field
 content_type value = field_of (codes "Content-Type") value

@@ -1,7 +1,7 @@
-ghost use Rattle.std.specs.Prelude.{◌≡◌, IfOk, IsTrue};
+ghost use Rattle.std.specs.Prelude.{◌≡◌, IfOk};
 ghost use Rattle.dsv_base.specs.Gives.{Gives};
 ghost use Rattle.dav_replies.specs.Faults.{is_no_memory};
-ghost use Rattle.dav_replies.specs.Tables.{has_reason};
+ghost use Rattle.dav_replies.specs.Replies.{IsWritable};
 ghost use Rattle.dav_machine.specs.ReadReplies.{reply_of};
 ghost use Rattle.dav_machine.specs.WriteReplies.{not_yet, write_answer};
 
@@ -19,7 +19,7 @@ use std::alloc::Global;
 /// Want of memory.
 pub fn write_reply(alloc: Global, root: &[u8], request: &Request) -> Result<Reply, NoMemory>
     ensures value { IfOk result (λ reply. reply ≡ reply_of (write_answer root.now request.now)) }
-    ensures reason { IfOk result (λ reply. IsTrue (has_reason reply.status)) }
+    ensures writable { IfOk result IsWritable }
 {
     match write_answer(alloc, root, request) {
         Ok(reply) => Ok(reply),
@@ -32,7 +32,7 @@ pub fn write_reply(alloc: Global, root: &[u8], request: &Request) -> Result<Repl
 #[tactic(auto, unfolding(crate::specs::WriteReplies::write_answer))]
 fn write_answer(alloc: Global, root: &[u8], request: &Request) -> Result<Reply, Refusal>
     ensures value { Gives is_no_memory result (write_answer root.now request.now) }
-    ensures reason { IfOk result (λ reply. IsTrue (has_reason reply.status)) }
+    ensures writable { IfOk result IsWritable }
 {
     let resource = resource_at(alloc, root, request.target.get())?;
     Err(not_yet(kind_of(&resource), request.method.get()))

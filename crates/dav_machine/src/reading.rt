@@ -1,4 +1,4 @@
-ghost use Rattle.std.specs.Prelude.{◌≡◌, ◌-◌, ◌<◌, IfOk, IsTrue, true, Err, Some, length};
+ghost use Rattle.std.specs.Prelude.{◌≡◌, ◌-◌, ◌<◌, IfOk, true, Err, Some, length};
 ghost use Rattle.std.specs.Option.{option_copied};
 ghost use Rattle.dsv_base.specs.Gives.{Gives, GivesBy};
 ghost use Rattle.authz_check.specs.Access.{can_read};
@@ -6,7 +6,7 @@ ghost use Rattle.rev_trees.specs.Forests.{repository_of, id_at};
 ghost use Rattle.dav_names.specs.Targets.{root_of, target};
 ghost use Rattle.dav_replies.specs.Faults.{is_no_memory};
 ghost use Rattle.dav_replies.specs.declared.refusal.Refusal.TheVariants.{WrongMethod};
-ghost use Rattle.dav_replies.specs.Tables.{has_reason};
+ghost use Rattle.dav_replies.specs.Replies.{IsWritable};
 ghost use Rattle.dav_machine.specs.States.{opening_state};
 ghost use Rattle.dav_machine.specs.Views.{view_of};
 ghost use Rattle.dav_machine.specs.ReadReplies.{read_reply, answer, resource_reply, path_reply, user_reply, asked_reply, get_reply, is_head, by_rule, by_revision, kind_of, or_bad_target, viewer, denied};
@@ -38,7 +38,7 @@ pub fn read_reply(
 ) -> Result<Reply, NoMemory>
     requires { policy.now.name ≡ trees.now.name }
     ensures value { IfOk result (λ reply. reply ≡ read_reply (view_of (opening_state (repository_of trees.now) policy.now.rules) (viewer request.now.login)) request.now) }
-    ensures reason { IfOk result (λ reply. IsTrue (has_reason reply.status)) }
+    ensures writable { IfOk result IsWritable }
 {
     let root = root_of(alloc, trees.name())?;
     let site = Site {
@@ -55,7 +55,7 @@ pub fn site_reply(alloc: Global, site: &Site<'_>, request: &Request) -> Result<R
     requires name { site.now.policy.now.name ≡ site.now.trees.now.name }
     requires root { site.now.root.now ≡ root_of site.now.trees.now.name }
     ensures value { IfOk result (λ reply. reply ≡ read_reply (view_of (opening_state (repository_of site.now.trees.now) site.now.policy.now.rules) (viewer request.now.login)) request.now) }
-    ensures reason { IfOk result (λ reply. IsTrue (has_reason reply.status)) }
+    ensures writable { IfOk result IsWritable }
 {
     match answer(alloc, site, request) {
         Ok(reply) => Ok(reply),
@@ -69,7 +69,7 @@ pub fn site_reply(alloc: Global, site: &Site<'_>, request: &Request) -> Result<R
 fn answer(alloc: Global, site: &Site<'_>, request: &Request) -> Result<Reply, Refusal>
     requires { site.now.policy.now.name ≡ site.now.trees.now.name }
     ensures value { Gives is_no_memory result (answer site.now.root.now (view_of (opening_state (repository_of site.now.trees.now) site.now.policy.now.rules) (viewer request.now.login)) request.now) }
-    ensures reason { IfOk result (λ reply. IsTrue (has_reason reply.status)) }
+    ensures writable { IfOk result IsWritable }
 {
     let resource = resource_at(alloc, site.root, request.target.get())?;
     let asked = by_method(kind_of(&resource), request.method.get())?;
@@ -120,7 +120,7 @@ fn resource_reply(
 ) -> Result<Reply, Refusal>
     requires { site.now.policy.now.name ≡ site.now.trees.now.name }
     ensures value { Gives is_no_memory result (resource_reply site.now.root.now (view_of (opening_state (repository_of site.now.trees.now) site.now.policy.now.rules) (viewer login.now)) login.now resource.now asked) }
-    ensures reason { IfOk result (λ reply. IsTrue (has_reason reply.status)) }
+    ensures writable { IfOk result IsWritable }
 {
     match resource {
         Resource::Public(path) => {
@@ -157,7 +157,7 @@ fn path_reply(
 ) -> Result<Reply, Refusal>
     requires { site.now.policy.now.name ≡ site.now.trees.now.name }
     ensures value { Gives is_no_memory result (path_reply site.now.root.now (view_of (opening_state (repository_of site.now.trees.now) site.now.policy.now.rules) (viewer login.now)) login.now asked place.now.resource.now place.now.rev place.now.path.now) }
-    ensures reason { IfOk result (λ reply. IsTrue (has_reason reply.status)) }
+    ensures writable { IfOk result IsWritable }
 {
     match login {
         Login::Nobody => user_reply(alloc, site, None, asked, place),
@@ -178,7 +178,7 @@ fn user_reply(
 ) -> Result<Reply, Refusal>
     requires { site.now.policy.now.name ≡ site.now.trees.now.name }
     ensures value { Gives is_no_memory result (user_reply site.now.root.now (view_of (opening_state (repository_of site.now.trees.now) site.now.policy.now.rules) (option_copied user.entry)) (option_copied user.entry) asked place.now.resource.now place.now.rev place.now.path.now) }
-    ensures reason { IfOk result (λ reply. IsTrue (has_reason reply.status)) }
+    ensures writable { IfOk result IsWritable }
 {
     by_rule(site.policy, user, place.path)?;
     by_revision(site.trees, place.rev)?;
@@ -245,7 +245,7 @@ fn get_reply(
     requires readable { can_read site.now.policy.now.rules site.now.trees.now.name (option_copied user) place.now.path.now ≡ true }
     requires there { place.now.rev < length site.now.trees.now.revisions }
     ensures value { Gives is_no_memory result (get_reply site.now.root.now (view_of (opening_state (repository_of site.now.trees.now) site.now.policy.now.rules) (option_copied user.entry)) place.now.resource.now place.now.rev place.now.path.now) }
-    ensures reason { IfOk result (λ reply. IsTrue (has_reason reply.status)) }
+    ensures writable { IfOk result IsWritable }
 {
     match site.trees.look(place.rev, place.path) {
         Some(id) => node_reply(alloc, site, user, place, id),
@@ -266,7 +266,7 @@ fn node_reply(
     requires readable { can_read site.now.policy.now.rules site.now.trees.now.name (option_copied user) place.now.path.now ≡ true }
     requires number { id_at site.now.trees.now place.now.rev place.now.path.now ≡ Some id }
     ensures value { Gives is_no_memory result (get_reply site.now.root.now (view_of (opening_state (repository_of site.now.trees.now) site.now.policy.now.rules) (option_copied user.entry)) place.now.resource.now place.now.rev place.now.path.now) }
-    ensures reason { IfOk result (λ reply. IsTrue (has_reason reply.status)) }
+    ensures writable { IfOk result IsWritable }
 {
     let node = site.trees.node(id);
     match node.kind {

@@ -1,6 +1,5 @@
-ghost use Rattle.std.specs.Prelude.{◌≡◌, ◌++◌, ◌∷◌, IfOk, OnOk, IsTrue, []};
-ghost use Rattle.dav_replies.specs.Replies.{field_of};
-ghost use Rattle.dav_replies.specs.Tables.{has_reason};
+ghost use Rattle.std.specs.Prelude.{◌≡◌, ◌++◌, ◌∷◌, IfOk, OnOk, []};
+ghost use Rattle.dav_replies.specs.Replies.{field_of, IsWritable};
 ghost use Rattle.dav_machine.specs.Replies.{content_reply, options_reply, options_fields, server_fields, root_fields, rev_fields, txn_fields, stub_field};
 
 use dav_replies::{AllowKind, allow_list};
@@ -11,7 +10,7 @@ use std::alloc::Global;
 #[tactic(auto, unfolding(crate::specs::Replies::content_reply))]
 pub fn content_reply(alloc: Global, media: &[u8], content: Bytes) -> Result<Reply, NoMemory>
     ensures value { IfOk result (λ reply. reply ≡ content_reply media.now content) }
-    ensures reason { IfOk result (λ reply. IsTrue (has_reason reply.status)) }
+    ensures writable { IfOk result IsWritable }
 {
     let mut fields = Vec::new(alloc);
     put_field(&mut fields, b"Content-Type", media)?;
@@ -45,7 +44,7 @@ pub fn options_reply(
     youngest: Rev,
 ) -> Result<Reply, NoMemory>
     ensures value { IfOk result (λ reply. reply ≡ options_reply root.now uuid.now youngest) }
-    ensures reason { IfOk result (λ reply. IsTrue (has_reason reply.status)) }
+    ensures writable { IfOk result IsWritable }
 {
     let mut fields = Vec::new(alloc);
     put_options(alloc, &mut fields, root, uuid, youngest)?;

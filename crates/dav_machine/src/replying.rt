@@ -1,6 +1,6 @@
-ghost use Rattle.std.specs.Prelude.{◌≡◌, ℕ, IfOk, IsTrue, None};
+ghost use Rattle.std.specs.Prelude.{◌≡◌, ℕ, IfOk, None};
 ghost use Rattle.dav_names.specs.Targets.{root_of};
-ghost use Rattle.dav_replies.specs.Tables.{has_reason};
+ghost use Rattle.dav_replies.specs.Replies.{IsWritable};
 ghost use Rattle.rev_trees.specs.Forests.{repository_of};
 ghost use Rattle.dav_machine.specs.AllReplies.{is_reading, reply_to};
 ghost use Rattle.dav_machine.specs.States.{opening_state};
@@ -21,7 +21,7 @@ pub fn reply_to(alloc: Global, site: &Site<'_>, request: &Request) -> Result<Rep
     requires name { site.now.policy.now.name ≡ site.now.trees.now.name }
     requires root { site.now.root.now ≡ root_of site.now.trees.now.name }
     ensures value { IfOk result (λ reply. (moment : ℕ) → reply_to (opening_state (repository_of site.now.trees.now) site.now.policy.now.rules) request.now moment ≡ (reply, None)) }
-    ensures reason { IfOk result (λ reply. IsTrue (has_reason reply.status)) }
+    ensures writable { IfOk result IsWritable }
 {
     if is_reading(request.method.get()) {
         site_reply(alloc, site, request)

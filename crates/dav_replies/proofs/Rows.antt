@@ -7,6 +7,7 @@ use Rattle.dav_documents.specs.Namespaces.{uri_of}
 use Rattle.dav_documents.specs.Written.{body_text, page_text}
 use Rattle.dav_replies.specs.declared.allow_kind.AllowKind.TheVariants.{TxrRoot}
 use Rattle.dav_replies.specs.declared.refusal.Refusal.TheVariants.{Denied, InfiniteDepth, WrongMethod, OutOfDate, Locked}
+use Rattle.dav_replies.specs.Methods.{allow_list}
 use Rattle.dav_replies.specs.Replies.{field_of, reply_text}
 use Rattle.dav_replies.specs.Refusals.{text_of, error_text, refusal_reply, refusal_bytes}
 
@@ -35,7 +36,7 @@ unfolding error_text digits body_text page_text xml_text uri_of
 locked_length = refl
 
 wrong_method : refusal_bytes (WrongMethod TxrRoot) true true ≡ codes "HTTP/1.1 405 Method Not Allowed\r\nAllow: PROPPATCH\r\nContent-Type: text/xml; charset=\"utf-8\"\r\nContent-Length: 173\r\nConnection: close\r\n\r\n"
-unfolding refusal_bytes refusal_reply reply_text error_text digits body_text page_text xml_text uri_of
+unfolding refusal_bytes refusal_reply allow_list reply_text error_text digits body_text page_text xml_text uri_of
 wrong_method = refl
 
 no_content : reply_text (record { status = 204; fields = field_of (codes "A") (codes "b") ∷ []; content = []; has_content = false }) false false ≡ codes "HTTP/1.1 204 No Content\r\nA: b\r\n\r\n"

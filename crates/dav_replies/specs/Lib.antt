@@ -1,3 +1,4 @@
+pub mod Methods
 pub mod Tables
 pub mod Replies
 pub mod Laws

@@ -9,7 +9,8 @@ use Rattle.dsv_base.specs.declared.field.Field.{Field}
 use Rattle.dsv_base.specs.declared.reply.Reply.{Reply}
 use Rattle.dav_replies.specs.declared.refusal.Refusal.{Refusal}
 use Rattle.dav_replies.specs.declared.refusal.Refusal.TheVariants.{NeedsLogin, InfiniteDepth, NoRevision, WrongMethod, Exists, OutOfDate, Conflict, WrongText, Locked, NotInProfile}
-use Rattle.dav_replies.specs.Tables.{row_of, form_name, allow_list}
+use Rattle.dav_replies.specs.Methods.{allow_list}
+use Rattle.dav_replies.specs.Tables.{row_of, form_name}
 use Rattle.dav_replies.specs.Replies.{field_of, reply_text}
 
 -- what a refusal tells beside its name

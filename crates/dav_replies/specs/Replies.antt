@@ -1,20 +1,36 @@
 -- The bytes of a reply (RFC 9112, section 4).
-use Rattle.std.specs.Prelude.{ℕ, Bool, List, [], ◌++◌, length, ◌==◌, codes, unwrap_or, if◌then◌else◌}
+use Rattle.std.specs.Prelude.{ℕ, Bool, IsTrue, List, [], ◌++◌, length, ◌==◌, ◌&&◌, ◌||◌, not, codes, unwrap_or, if◌then◌else◌}
 use Rattle.std.specs.List.{flat_map}
 use Rattle.std.specs.Fmt.{decimal}
 use Rattle.dsv_base.specs.declared.field.Field.{Field}
 use Rattle.dsv_base.specs.declared.reply.Reply.{Reply}
-use Rattle.dav_replies.specs.Tables.{reason_of}
+use Rattle.dav_replies.specs.Tables.{reason_of, has_reason}
 
+-- whether a reply can be written: its status has a reason phrase, content stands only where it is told, and
+-- a 204 has none (RFC 9110, section 15.3.5)
+abbrev pub is_writable : Reply → Bool
+is_writable reply =
+    has_reason reply.status
+    && (reply.has_content || length reply.content == 0)
+    && not (reply.has_content && reply.status == 204)
+
+-- that a reply can be written
+abbrev pub IsWritable : Reply → Type 0
+IsWritable reply = IsTrue (is_writable reply)
+
+-- a field by its name and its value
 abbrev pub field_of : List ℕ → List ℕ → Field
 field_of name value = record { name = name; value = value }
 
+-- the line of a field (RFC 9112, section 5)
 abbrev pub field_line : List ℕ → List ℕ → List ℕ
 field_line name value = name ++ codes ": " ++ value ++ codes "\r\n"
 
+-- a field as its line
 abbrev pub field_text : Field → List ℕ
 field_text field = field_line field.name field.value
 
+-- the first line of a reply (RFC 9112, section 4)
 abbrev pub status_line : ℕ → List ℕ
 status_line status = codes "HTTP/1.1 " ++ decimal status ++ codes " " ++ unwrap_or (reason_of status) [] ++ codes "\r\n"
 
@@ -22,6 +38,7 @@ status_line status = codes "HTTP/1.1 " ++ decimal status ++ codes " " ++ unwrap_
 abbrev pub length_line : ℕ → ℕ → List ℕ
 length_line status size = if status == 204 then [] else field_line (codes "Content-Length") (decimal size)
 
+-- what tells that the connection ends (RFC 9112, section 9.6)
 abbrev pub last_line : Bool → List ℕ
 last_line last = if last then field_line (codes "Connection") (codes "close") else []
 

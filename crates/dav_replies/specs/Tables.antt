@@ -1,9 +1,7 @@
--- The tables of replies: refusals, forms, methods, reasons.
+-- The tables of replies: refusals, forms, reasons.
 use Rattle.std.specs.Prelude.{ℕ, Bool, true, false, List, ◌==◌, codes, Option, Some, None, is_some, if◌then◌else◌}
 use Rattle.dsv_base.specs.declared.form.Form.{Form}
 use Rattle.dsv_base.specs.declared.form.Form.TheVariants.{Svndiff, ContentEncoding, PostType, IfCondition, CopyDepth, Doctype, Processing, Propname, SharedLock, LockRefresh, Report, ReportPlace, Switch, UpdateTarget, LinkPath, Mixed, Depth, SeveralPaths, MergedRevisions, Later}
-use Rattle.dav_replies.specs.declared.allow_kind.AllowKind.{AllowKind}
-use Rattle.dav_replies.specs.declared.allow_kind.AllowKind.TheVariants.{Public, Rvr, RevOnly, Me, Txr, TxrRoot, Txn}
 use Rattle.dav_replies.specs.declared.refusal.Refusal.{Refusal}
 use Rattle.dav_replies.specs.declared.refusal.Refusal.TheVariants.{BadMessage, BadTarget, BadBody, BadHeader, NeedsLogin, Denied, InfiniteDepth, NoNode, NoRevision, NoTransaction, WrongMethod, Exists, NoParent, OutOfDate, Conflict, WrongToken, WrongText, NotOverwritten, BodyTooLarge, Locked, HeadTooLarge, KeeperFault, NotInProfile, NoMemory, FullRevisions, TooManyTransactions, TooManyChanges, PathTooLong, TooManyLocks}
 
@@ -14,12 +12,15 @@ pub record RefusalRow : Type 0 where
   pub status : ℕ
   pub closing : Bool
 
+-- the row of a refusal after which the connection goes on
 abbrev pub staying : ℕ → List ℕ → ℕ → RefusalRow
 staying code name status = record { code = code; name = name; status = status; closing = false }
 
+-- the row of a refusal that ends the connection
 abbrev pub ending : ℕ → List ℕ → ℕ → RefusalRow
 ending code name status = record { code = code; name = name; status = status; closing = true }
 
+-- the table of refusals, each with its own row
 abbrev pub row_of : Refusal → RefusalRow
 row_of BadMessage = ending 1 (codes "BadMessage") 400
 row_of BadTarget = staying 2 (codes "BadTarget") 400
@@ -74,16 +75,6 @@ form_name SeveralPaths = codes "several-paths"
 form_name MergedRevisions = codes "merged-revisions"
 form_name Later = codes "later"
 
--- the methods that a resource takes, as the field Allow lists them (RFC 9110, section 10.2.1)
-abbrev pub allow_list : AllowKind → List ℕ
-allow_list Public = codes "OPTIONS, GET, HEAD, PROPFIND, REPORT, COPY, MERGE, LOCK, UNLOCK"
-allow_list Rvr = codes "GET, HEAD, PROPFIND, REPORT, COPY"
-allow_list RevOnly = codes "PROPFIND"
-allow_list Me = codes "POST, REPORT"
-allow_list Txr = codes "PUT, MKCOL, PROPPATCH, DELETE"
-allow_list TxrRoot = codes "PROPPATCH"
-allow_list Txn = codes "PROPPATCH, DELETE"
-
 -- the reason phrase of a status that a reply may have (RFC 9110, section 15; RFC 4918, section 11; RFC 6585, section 5)
 abbrev pub reason_of : ℕ → Option (List ℕ)
 reason_of status =
@@ -107,5 +98,6 @@ reason_of status =
     else if status == 507 then Some (codes "Insufficient Storage")
     else None
 
+-- whether a reply may have a status
 abbrev pub has_reason : ℕ → Bool
 has_reason status = is_some (reason_of status)

@@ -6,21 +6,20 @@ mod allow_kind;
 mod detail;
 mod error_body;
 mod laws;
+mod method;
 mod no_memory;
 mod refusal;
-#[cfg(test)]
-mod refusal_tests;
 mod refusals;
-#[cfg(test)]
-mod reply_tests;
 mod tables;
+#[cfg(test)]
+mod tests;
 mod writing;
 
 pub use allow_kind::AllowKind;
 pub use dsv_base::{Field, Form, Reply};
-pub use laws::{codes_are_in_order, ending_codes, statuses_have_reasons};
+pub use laws::{codes_are_in_order, ending_codes, methods_read_back, statuses_have_reasons};
+pub use method::{Method, allow_list};
 pub use no_memory::no_memory_bytes;
 pub use refusal::Refusal;
 pub use refusals::{refusal_bytes, refusal_reply};
-pub use tables::allow_list;
 pub use writing::reply_bytes;

@@ -1,11 +1,11 @@
-ghost use Rattle.std.specs.Prelude.{◌≡◌, IsTrue, IfOk};
-ghost use Rattle.dav_replies.specs.Tables.{has_reason};
-ghost use Rattle.dav_replies.specs.Replies.{field_of};
+ghost use Rattle.std.specs.Prelude.{◌≡◌, IfOk};
+ghost use Rattle.dav_replies.specs.Replies.{field_of, IsWritable};
 ghost use Rattle.dav_replies.specs.Refusals.{refusal_reply, refusal_bytes, own_fields};
 
 use crate::error_body::error_body;
+use crate::method::allow_list;
 use crate::refusal::Refusal;
-use crate::tables::{allow_list, row_of};
+use crate::tables::row_of;
 use crate::writing::reply_bytes;
 use dsv_base::{Bytes, Field, List, NoMemory, Reply};
 use std::alloc::Global;
@@ -15,7 +15,7 @@ use std::alloc::Global;
 #[tactic(auto, unfolding(crate::specs::Refusals::refusal_reply))]
 pub fn refusal_reply(alloc: Global, refusal: &Refusal) -> Result<Reply, NoMemory>
     ensures value { IfOk result (λ reply. reply ≡ refusal_reply refusal.now) }
-    ensures reason { IfOk result (λ reply. IsTrue (has_reason reply.status)) }
+    ensures writable { IfOk result IsWritable }
 {
     let mut fields = own_fields(alloc, refusal)?;
     fields.push(field_of(alloc, b"Content-Type", b"text/xml; charset=\"utf-8\"")?)?;

@@ -1,8 +1,7 @@
 ghost use Rattle.std.specs.Prelude.{◌≡◌, true, false};
 ghost use Rattle.std.specs.Option.{option_copied};
-ghost use Rattle.dav_replies.specs.Tables.{row_of, form_name, allow_list, reason_of};
+ghost use Rattle.dav_replies.specs.Tables.{row_of, form_name, reason_of};
 
-use crate::allow_kind::AllowKind;
 use crate::refusal::Refusal;
 use dsv_base::Form;
 
@@ -112,22 +111,6 @@ pub(crate) fn form_name(form: Form) -> &'static [u8]
         Form::SeveralPaths => b"several-paths",
         Form::MergedRevisions => b"merged-revisions",
         Form::Later => b"later",
-    }
-}
-
-/// The methods that a resource of this kind takes, as the field Allow lists them (RFC 9110,
-/// section 10.2.1): in a reply to OPTIONS, and in one with status 405.
-pub fn allow_list(kind: AllowKind) -> &'static [u8]
-    ensures { result.now ≡ allow_list kind }
-{
-    match kind {
-        AllowKind::Public => b"OPTIONS, GET, HEAD, PROPFIND, REPORT, COPY, MERGE, LOCK, UNLOCK",
-        AllowKind::Rvr => b"GET, HEAD, PROPFIND, REPORT, COPY",
-        AllowKind::RevOnly => b"PROPFIND",
-        AllowKind::Me => b"POST, REPORT",
-        AllowKind::Txr => b"PUT, MKCOL, PROPPATCH, DELETE",
-        AllowKind::TxrRoot => b"PROPPATCH",
-        AllowKind::Txn => b"PROPPATCH, DELETE",
     }
 }
 

@@ -1,7 +1,7 @@
-ghost use Rattle.std.specs.Prelude.{◌≡◌, ◌++◌, [], IsTrue, IfOk, OnOk, codes, unwrap_or, if◌then◌else◌};
+ghost use Rattle.std.specs.Prelude.{◌≡◌, ◌++◌, [], IfOk, OnOk, codes, unwrap_or, if◌then◌else◌};
 ghost use Rattle.std.specs.List.{flat_map};
-ghost use Rattle.dav_replies.specs.Tables.{has_reason, reason_of};
-ghost use Rattle.dav_replies.specs.Replies.{reply_text, status_line, field_line, field_text, length_line, last_line};
+ghost use Rattle.dav_replies.specs.Tables.{reason_of};
+ghost use Rattle.dav_replies.specs.Replies.{IsWritable, reply_text, status_line, field_line, field_text, length_line, last_line};
 
 use crate::tables::reason_of;
 use dsv_base::{Bytes, Field, NoMemory, Reply};
@@ -13,7 +13,8 @@ const HEAD_ROOM: usize = 512;
 /// The bytes of a reply (RFC 9112, section 4).
 ///
 /// `head_only` leaves out the content, as a reply to HEAD does; `last` tells that the connection
-/// ends. The status has to be one that has a reason phrase. The one error is want of memory.
+/// ends. The status has to be one that has a reason phrase, and content stands only in a reply that
+/// says so, never in one with status 204. The one error is want of memory.
 #[tactic(auto, unfolding(crate::specs::Replies::reply_text))]
 pub fn reply_bytes(
     alloc: Global,
@@ -21,7 +22,7 @@ pub fn reply_bytes(
     head_only: bool,
     last: bool,
 ) -> Result<Bytes, NoMemory>
-    requires reason { IsTrue (has_reason reply.now.status) }
+    requires writable { IsWritable reply.now }
     ensures { IfOk result (λ bytes. bytes ≡ reply_text reply.now head_only last) }
 {
     let content = reply.content.get();
