@@ -1,8 +1,8 @@
 use Rattle.rev_trees.specs.Readies.{revisions_of}
 use Rattle.rev_scripts.specs.Scripts.{commit_of}
 use Rattle.rev_scripts.proofs.ReadRevisions.{fits_first, unfit_first}
-use Rattle.rev_trees.proofs.build.first_fault.Goals as goal
-use Rattle.rev_trees.proofs.build.first_fault.Goals.{in-Ok, in-Err}
+use Rattle.rev_scripts.proofs.build.first_fault.Goals as goal
+use Rattle.rev_scripts.proofs.build.first_fault.Goals.{in-Ok, in-Err}
 
 pub returns-after-prepare_told : goal.returns-after-prepare_told
 returns-after-prepare_told c = elim c.match-prepare_told.branch [

@@ -1,6 +1,6 @@
 use Rattle.rev_scripts.specs.Scripts.{commit_of}
 use Rattle.rev_scripts.proofs.ReadRevisions.{change_unfit}
-use Rattle.rev_trees.proofs.build.prepare_told.Goals as goal
+use Rattle.rev_scripts.proofs.build.prepare_told.Goals as goal
 
 pub returns-in-Err-Unfit-clause-says : goal.returns-in-Err-Unfit-clause-says
 returns-in-Err-Unfit-clause-says c =

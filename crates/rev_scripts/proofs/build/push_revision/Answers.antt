@@ -3,7 +3,7 @@ use Rattle.std.proofs.lemmas.Result.{err_from_is_err_and}
 use Rattle.rev_scripts.specs.Scripts.{with_read}
 use Rattle.rev_trees.specs.Readies.{revisions_of}
 use Rattle.rev_scripts.proofs.ReadRevisions.{head_fault, fault_next, unfit_next, whole_next, length-revisions_of}
-use Rattle.rev_trees.proofs.build.push_revision.Goals as goal
+use Rattle.rev_scripts.proofs.build.push_revision.Goals as goal
 
 pub returns-in-Err-clause-value : goal.returns-in-Err-clause-value
 returns-in-Err-clause-value c =

@@ -5,7 +5,7 @@ use Rattle.rev_nodes.specs.Trees.{Repository, Revision}
 use Rattle.rev_trees.specs.Readies.{revisions_of}
 use Rattle.rev_scripts.specs.Reading.{with_revisions}
 use Rattle.rev_scripts.proofs.ReadRevisions.{one_pushed, fault_ends, nothing_left}
-use Rattle.rev_trees.proofs.build.read_others.Goals as goal
+use Rattle.rev_scripts.proofs.build.read_others.Goals as goal
 
 pub returns-in_err-next : goal.returns-in_err-next
 returns-in_err-next c =

@@ -2,7 +2,7 @@ use Rattle.std.proofs.Common.{◌≡◌, ◌≤◌, ◌+◌, length}
 use Rattle.rev_trees.specs.Readies.{revisions_of}
 use Rattle.rev_scripts.specs.Scripts.{revisions_from}
 use Rattle.rev_scripts.proofs.ReadRevisions.{IsLeft}
-use Rattle.rev_trees.proofs.build.read_others.Given as goal
+use Rattle.rev_scripts.proofs.build.read_others.Given as goal
 
 -- the trees so far, and the revisions that are left
 abbrev pub invariant-revisions : goal.invariant-revisions

@@ -3,7 +3,7 @@ use Rattle.std.proofs.lemmas.Result.{err_from_is_err_and}
 use Rattle.rev_nodes.specs.declared.commit.Commit.{Commit}
 use Rattle.rev_scripts.specs.Items.{Told, nothing_told}
 use Rattle.rev_scripts.proofs.ReadRevisions.{head_fault, zeroth_of, zeroth_fault, zeroth_whole, none_told}
-use Rattle.rev_trees.proofs.build.zeroth_from.Goals as goal
+use Rattle.rev_scripts.proofs.build.zeroth_from.Goals as goal
 
 pub returns-in-Err-clause-value : goal.returns-in-Err-clause-value
 returns-in-Err-clause-value c = rw c.at.ensures (head_fault zeroth_of 0 4 c.args.text.now c.in-Err.fault (rw c.zeroth.ensures at c.in-Err.ensures.value))

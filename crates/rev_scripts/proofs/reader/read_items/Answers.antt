@@ -2,7 +2,7 @@ use Rattle.std.proofs.Common.{◌≡◌, ℕ, ◌<◌, ◌≤◌, ◌+◌, List,
 use Rattle.std.proofs.lemmas.Result.{err_from_is_err_and}
 use Rattle.rev_scripts.specs.Scripts.{Items}
 use Rattle.rev_scripts.proofs.ItemTurns.{prop_read, change_read, end_read, fault_gives, fault_told}
-use Rattle.rev_trees.proofs.reader.read_items.Goals as goal
+use Rattle.rev_scripts.proofs.reader.read_items.Goals as goal
 
 one_taken : {X : Type 0} (xs : List X) (x : X) (after rest most : ℕ) → after < rest → length xs + rest ≤ most → length (xs ++ x ∷ []) + after ≤ most
 one_taken xs x after rest most shorter few = let count : length (xs ++ x ∷ []) ≡ length xs + 1 = length-append xs (x ∷ []) in omega arith

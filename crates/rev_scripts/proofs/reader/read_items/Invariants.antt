@@ -1,7 +1,7 @@
 use Rattle.std.proofs.Common.{◌≤◌, ◌+◌, length}
 use Rattle.rev_scripts.specs.Scripts.{items_from}
 use Rattle.rev_scripts.proofs.ItemTurns.{IsRead}
-use Rattle.rev_trees.proofs.reader.read_items.Given as goal
+use Rattle.rev_scripts.proofs.reader.read_items.Given as goal
 
 -- what was told so far, and the items that are left
 abbrev pub invariant-items : goal.invariant-items

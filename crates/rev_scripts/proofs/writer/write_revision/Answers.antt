@@ -2,7 +2,7 @@ use Rattle.std.proofs.Common.{rules}
 use Rattle.rev_scripts.specs.Written.{revision_text}
 use Rattle.rev_scripts.proofs.RevisionBack.{revision_back}
 use Rattle.rev_scripts.proofs.Extending.{extends}
-use Rattle.rev_trees.proofs.writer.write_revision.Goals as goal
+use Rattle.rev_scripts.proofs.writer.write_revision.Goals as goal
 
 pub returns-clause-text : goal.returns-clause-text
 unfolding revision_text
