@@ -15,7 +15,7 @@ use Rattle.rev_nodes.specs.declared.unfit.Unfit.TheVariants.{NoNode}
 use Rattle.rev_nodes.specs.Changes.{mark, marked, placed, with_props, edited, unfit_at}
 use Rattle.rev_nodes.specs.Fitting.{settled}
 use Rattle.rev_trees.specs.Flat.{node_of, entry, AreOf, IsFoundAt}
-use Rattle.rev_nodes.proofs.Below.{under_itself}
+use Rattle.rev_nodes.proofs.Marks.{marked_settled}
 
 -- a node of this revision has its mark
 pub marked_before : (r : ℕ) (path : List ℕ) (place : Place) → place.node.created ≡ r → entry place ≡ mark r path (entry place)

@@ -15,6 +15,7 @@ use Rattle.rev_nodes.specs.declared.unfit.Unfit.TheVariants.{NoNode, IsRoot, Exi
 use Rattle.rev_nodes.specs.Trees.{TreeNode, Tree, tree_at}
 use Rattle.rev_nodes.specs.Changes.{marked, placed, without, moved, copied, are_paths, or_too_long, unfit, apply, apply_from, unless}
 use Rattle.rev_nodes.specs.Fitting.{in_order, is_want}
+use Rattle.rev_nodes.proofs.Marks.{sorted-marked, sorted-placed, sorted-without}
 use Rattle.rev_trees.specs.Flat.{node_of, tree_in, fault_of, IsPlaceOf, IsGapFor, AreOf, Applies, AppliesAll}
 use Rattle.rev_trees.specs.Kept.{places_in, trees_in}
 
