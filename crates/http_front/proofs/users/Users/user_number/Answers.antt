@@ -2,10 +2,10 @@ use Rattle.std.proofs.Common.{◌≡◌, ℕ, ◌+◌, Bool, true, false, not, c
 use Rattle.std.specs.List.{position_from}
 use Rattle.std.specs.Str.{bytes_eq}
 use Rattle.http_front.specs.declared.user.User.{User}
-use Rattle.http_front.specs.Logins.{is_user}
+use Rattle.http_front.specs.Logins.{has_credentials}
 use Rattle.http_front.specs.UsersFile.{names}
 use Rattle.http_front.proofs.NamePlaces.{none_named, named_user, found_named}
-use Rattle.http_front.proofs.users.Users.number_of.Goals as goal
+use Rattle.http_front.proofs.users.Users.user_number.Goals as goal
 
 no_user : User
 no_user = record { name = []; password = [] }
@@ -32,7 +32,7 @@ index-requires c =
 pub returns-then-ne-clause-value : goal.returns-then-ne-clause-value
 returns-then-ne-clause-value c =
     let other : bytes_eq c.args.password.now c.index.result.now.password ≡ false = ap (bytes_eq c.args.password.now) (sym c.get.ensures) ∙ unequal (bytes_eq c.args.password.now c.get.result.now) (sym c.ne.ensures ∙ c.if-ne.true) in
-    sym (ap (position_from (is_user c.args.name.now c.args.password.now) 1) (sym c.self.view_is)
+    sym (ap (position_from (has_credentials c.args.name.now c.args.password.now) 1) (sym c.self.view_is)
     ∙ (named_user c.args.name.now c.args.password.now c.self.inside.users.items c.in-Some.place c.index.result.now (found c.args.name.now c.self.inside.users.items c.args.self.now c.place.result c.in-Some.place c.self.view_is c.place.ensures c.in-Some.is) c.self.invariant.distinct).1 c.index.ensures
     ∙ ap (λ b. cond b (Some (c.in-Some.place + 1)) None) other)
 
@@ -47,7 +47,7 @@ overflow_add-result c =
 pub returns-clause-value : goal.returns-clause-value
 returns-clause-value c =
     let other : bytes_eq c.args.password.now c.index.result.now.password ≡ true = ap (bytes_eq c.args.password.now) (sym c.get.ensures) ∙ equal (bytes_eq c.args.password.now c.get.result.now) (sym c.ne.ensures ∙ c.if-ne.false) in
-    sym (ap (position_from (is_user c.args.name.now c.args.password.now) 1) (sym c.self.view_is)
+    sym (ap (position_from (has_credentials c.args.name.now c.args.password.now) 1) (sym c.self.view_is)
     ∙ (named_user c.args.name.now c.args.password.now c.self.inside.users.items c.in-Some.place c.index.result.now (found c.args.name.now c.self.inside.users.items c.args.self.now c.place.result c.in-Some.place c.self.view_is c.place.ensures c.in-Some.is) c.self.invariant.distinct).1 c.index.ensures
     ∙ ap (λ b. cond b (Some (c.in-Some.place + 1)) None) other)
 
