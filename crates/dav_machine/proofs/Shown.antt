@@ -10,9 +10,9 @@ use Rattle.std.proofs.lemmas.Map.Lookups.{exact_bytes}
 use Rattle.dsv_base.specs.Gives.{◌>>=◌}
 use Rattle.dav_names.specs.declared.resource.Resource.{Resource}
 use Rattle.dav_replies.specs.declared.refusal.Refusal.TheVariants.{NoNode}
-use Rattle.rev_trees.specs.declared.node.Node.{Node}
-use Rattle.rev_trees.specs.Trees.{TreeNode, Tree, at}
-use Rattle.rev_trees.specs.Forests.{Numbered, ForestRevision, Forest, no_revision, tree_of, without_numbers, repository_of, places_at, place_at, id_at, node_at}
+use Rattle.rev_nodes.specs.declared.node.Node.{Node}
+use Rattle.rev_nodes.specs.Trees.{TreeNode, Tree, at}
+use Rattle.rev_nodes.specs.Forests.{Numbered, ForestRevision, Forest, no_revision, tree_of, without_numbers, repository_of, places_at, place_at, id_at, node_at}
 use Rattle.authz_file.specs.declared.rule.Rule.{Rule}
 use Rattle.authz_check.specs.Access.{can_read}
 use Rattle.dav_machine.specs.States.{opening_state}

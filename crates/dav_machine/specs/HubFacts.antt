@@ -1,6 +1,6 @@
 -- What a hub keeps of its parts.
 use Rattle.std.specs.Prelude.{ℕ, ◌≡◌, List, length}
-use Rattle.rev_trees.specs.Forests.{Forest}
+use Rattle.rev_nodes.specs.Forests.{Forest}
 use Rattle.authz_check.specs.Kept.{Kept}
 use Rattle.dav_names.specs.Targets.{root_of}
 use Rattle.dav_machine.specs.declared.event.Event.{Event}

@@ -1,6 +1,6 @@
 -- A hub, as contracts see it.
 use Rattle.std.specs.Prelude.{ℕ, List, [], ◌∷◌}
-use Rattle.rev_trees.specs.Forests.{Forest, repository_of}
+use Rattle.rev_nodes.specs.Forests.{Forest, repository_of}
 use Rattle.authz_check.specs.Kept.{Kept}
 use Rattle.dav_machine.specs.declared.event.Event.{Event}
 use Rattle.dav_machine.specs.Histories.{Entry}

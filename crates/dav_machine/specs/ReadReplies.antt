@@ -8,10 +8,10 @@ use Rattle.dsv_base.specs.declared.reply.Reply.{Reply}
 use Rattle.http_front.specs.declared.login.Login.{Login}
 use Rattle.http_front.specs.declared.login.Login.TheVariants.{Nobody, User, Wrong}
 use Rattle.http_front.specs.declared.request.Request.{Request}
-use Rattle.rev_trees.specs.declared.kind.Kind.{Kind}
-use Rattle.rev_trees.specs.declared.kind.Kind.TheVariants.{File, Dir}
-use Rattle.rev_trees.specs.declared.node.Node.{Node}
-use Rattle.rev_trees.specs.Trees.{TreeNode}
+use Rattle.rev_nodes.specs.declared.kind.Kind.{Kind}
+use Rattle.rev_nodes.specs.declared.kind.Kind.TheVariants.{File, Dir}
+use Rattle.rev_nodes.specs.declared.node.Node.{Node}
+use Rattle.rev_nodes.specs.Trees.{TreeNode}
 use Rattle.dav_names.specs.declared.resource.Resource.{Resource}
 use Rattle.dav_names.specs.declared.resource.Resource.TheVariants as named
 use Rattle.dav_names.specs.Targets.{target, root_of}

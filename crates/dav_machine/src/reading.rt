@@ -2,7 +2,7 @@ ghost use Rattle.std.specs.Prelude.{◌≡◌, ◌-◌, ◌<◌, IfOk, true, Err
 ghost use Rattle.std.specs.Option.{option_copied};
 ghost use Rattle.dsv_base.specs.Gives.{Gives, GivesBy};
 ghost use Rattle.authz_check.specs.Access.{can_read};
-ghost use Rattle.rev_trees.specs.Forests.{repository_of, id_at};
+ghost use Rattle.rev_nodes.specs.Forests.{repository_of, id_at};
 ghost use Rattle.dav_names.specs.Targets.{root_of, target};
 ghost use Rattle.dav_replies.specs.Faults.{is_no_memory};
 ghost use Rattle.dav_replies.specs.declared.refusal.Refusal.TheVariants.{WrongMethod};
@@ -22,7 +22,8 @@ use dav_names::{Resource, TargetFault, read_target, root_of};
 use dav_replies::{AllowKind, Refusal, refusal_reply};
 use dsv_base::{NoMemory, Path, Reply, Rev};
 use http_front::{Login, Request};
-use rev_trees::{Kind, NodeId, Trees};
+use rev_nodes::{Kind, NodeId};
+use rev_trees::Trees;
 use std::alloc::Global;
 
 /// The reply to a reading request, by what the trees and the policy show to the user who sent it: what

@@ -1,7 +1,7 @@
 ghost use Rattle.std.specs.Prelude.{◌≡◌, ℕ, IfOk, None};
 ghost use Rattle.dav_names.specs.Targets.{root_of};
 ghost use Rattle.dav_replies.specs.Replies.{IsWritable};
-ghost use Rattle.rev_trees.specs.Forests.{repository_of};
+ghost use Rattle.rev_nodes.specs.Forests.{repository_of};
 ghost use Rattle.dav_machine.specs.AllReplies.{is_reading, reply_to};
 ghost use Rattle.dav_machine.specs.States.{opening_state};
 

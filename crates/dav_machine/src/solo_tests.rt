@@ -4,7 +4,7 @@ use authz_file::read_rules;
 use dsv_base::{Bytes, List, Moment};
 use dsv_outside::SureKeeper;
 use http_front::{Login, Request};
-use rev_trees::read_script;
+use rev_scripts::read_script;
 use std::process::Abort;
 use std::test::Fail;
 

@@ -7,14 +7,14 @@ use Rattle.http_front.specs.declared.framing.Framing.{Framing}
 use Rattle.http_front.specs.declared.head.Head.{Head}
 use Rattle.http_front.specs.declared.phase.Phase.{Phase}
 use Rattle.http_front.specs.declared.phase.Phase.TheVariants.{Open}
-use Rattle.http_front.specs.declared.place.Place.TheVariants.{Before, Between}
+use Rattle.http_front.specs.declared.byte_place.BytePlace.TheVariants.{Before, Between}
 use Rattle.http_front.specs.declared.stage.Stage.{Stage}
 use Rattle.http_front.specs.declared.stage.Stage.TheVariants.{AtLine, InData, InTrailers}
 use Rattle.http_front.specs.declared.user.User.{User}
 use Rattle.http_front.specs.Advances.{IsProgress, HasFramed, IsAlways}
 use Rattle.http_front.specs.Answers.{Waits}
 use Rattle.http_front.specs.Heads.{IsRead}
-use Rattle.http_front.specs.Kept.{IsKept, IsFew}
+use Rattle.http_front.specs.FrontInside.{FrontHolds, IsFew}
 use Rattle.http_front.specs.Outcomes.{Part}
 use Rattle.http_front.specs.Readings.{IsReading, StageSays}
 use Rattle.http_front.specs.Scans.{IsScanned}
@@ -64,7 +64,7 @@ progress_stable bytes more (InChunks head chunks) x =
       subst (λ t. IsReading t chunks.body.items chunks.used chunks.stage) (sym after) (reading_stable (take 134217728 (drop head.len bytes)) longer.0 chunks.body.items chunks.used chunks.stage x.1),
     )
 
-pub kept_more : (number at start : ℕ) (bytes more all : List ℕ) (phase : Phase) (progress : Progress) → all ≡ bytes ++ more → IsKept number at bytes start phase progress → IsKept number at all start phase progress
+pub kept_more : (number at start : ℕ) (bytes more all : List ℕ) (phase : Phase) (progress : Progress) → all ≡ bytes ++ more → FrontHolds number at bytes start phase progress → FrontHolds number at all start phase progress
 kept_more number at start bytes more all phase progress e x = record {
   within = omega (arith, x.within, length-append bytes more, ap length e);
   progress_is = subst (λ t. IsProgress t progress) (sym (ap (drop start) e ∙ drop-append-le start bytes more x.within)) (progress_stable (drop start bytes) more progress x.progress_is);
@@ -72,7 +72,7 @@ kept_more number at start bytes more all phase progress e x = record {
   bounded = x.bounded;
 }
 
-pub waits_from : (users : List User) (number at start : ℕ) (bytes : List ℕ) (phase : Phase) (progress : Progress) → IsKept number at bytes start phase progress → phase ≡ Open
+pub waits_from : (users : List User) (number at start : ℕ) (bytes : List ℕ) (phase : Phase) (progress : Progress) → FrontHolds number at bytes start phase progress → phase ≡ Open
     → IsAlways (drop start bytes) (λ u n. Part) → Waits users (record { number = number; at = at; rest = drop start bytes; phase = phase })
 waits_from users number at start bytes phase progress x is_open first =
     let few : number < 1000000 = subst (λ p. IsFew p number) is_open x.few in

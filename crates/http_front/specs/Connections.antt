@@ -6,6 +6,7 @@ use Rattle.dsv_base.specs.declared.field.Field.{Field}
 use Rattle.dsv_base.specs.TextFiles.{trimmed}
 use Rattle.http_front.specs.Fields.{is_named}
 
+-- the byte is a comma
 abbrev pub is_comma : ℕ → Bool
 is_comma b = b == 44
 

@@ -4,7 +4,7 @@ use Rattle.http_front.specs.declared.advance.Progress.{Progress}
 use Rattle.http_front.specs.declared.advance.Progress.TheVariants.{InHead}
 use Rattle.http_front.specs.declared.phase.Phase.{Phase}
 use Rattle.http_front.specs.declared.phase.Phase.TheVariants.{Open, Finished, Stopped}
-use Rattle.http_front.specs.declared.place.Place.TheVariants.{Before}
+use Rattle.http_front.specs.declared.byte_place.BytePlace.TheVariants.{Before}
 use Rattle.http_front.specs.Advances.{IsProgress}
 use Rattle.http_front.specs.Limits.{most_requests, most_message_bytes}
 
@@ -15,7 +15,7 @@ IsFew Finished number = number ≤ most_requests
 IsFew (Stopped why) number = number ≤ most_requests
 
 -- the rest begins at start in the bytes; it was read up to there; and the requests and their bytes are bounded
-pub record IsKept (number at : ℕ) (bytes : List ℕ) (start : ℕ) (phase : Phase) (progress : Progress) : Type 0 where
+pub record FrontHolds (number at : ℕ) (bytes : List ℕ) (start : ℕ) (phase : Phase) (progress : Progress) : Type 0 where
   pub within : start ≤ length bytes
   pub progress_is : IsProgress (drop start bytes) progress
   pub few : IsFew phase number

@@ -1,6 +1,6 @@
 /// Where in the lines of a section a byte stands.
 #[derive(Clone, Copy, Debug)]
-pub(crate) enum Place {
+pub(crate) enum BytePlace {
     /// Before a head, where line ends may stand.
     Before,
     /// At a line's beginning.

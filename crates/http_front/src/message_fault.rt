@@ -1,6 +1,6 @@
 /// Why a message is refused.
 #[derive(Clone, Copy, Debug)]
-pub(crate) enum Refusal {
+pub(crate) enum MessageFault {
     BadMessage,
     HeadTooLarge,
     BodyTooLarge,

@@ -1,17 +1,17 @@
 -- The next revision, as it is made from those that are kept.
 use Rattle.std.specs.Prelude.{ℕ, ◌≡◌, ◌-◌, Result, Ok, Err, List, ⊤, length}
-use Rattle.rev_trees.specs.declared.commit.Commit.{Commit}
+use Rattle.rev_nodes.specs.declared.commit.Commit.{Commit}
 use Rattle.rev_trees.specs.declared.push_fault.PushFault.{PushFault}
 use Rattle.rev_trees.specs.declared.push_fault.PushFault.TheVariants as faults
 use Rattle.rev_trees.specs.declared.revision.FlatRevision.{FlatRevision}
-use Rattle.rev_trees.specs.declared.unfit.Unfit.{Unfit}
-use Rattle.rev_trees.specs.Trees.{Tree}
-use Rattle.rev_trees.specs.Changes.{apply_from}
-use Rattle.rev_trees.specs.ChangedPaths.{changed_paths}
+use Rattle.rev_nodes.specs.declared.unfit.Unfit.{Unfit}
+use Rattle.rev_nodes.specs.Trees.{Tree}
+use Rattle.rev_nodes.specs.Changes.{apply_from}
+use Rattle.rev_nodes.specs.ChangedPaths.{changed_paths}
 use Rattle.rev_trees.specs.Flat.{tree_in}
 use Rattle.rev_trees.specs.Kept.{places_in, trees_in, IsFlat}
 use Rattle.rev_trees.specs.Listed.{IsListed}
-use Rattle.rev_trees.specs.Formed.{IsFormed}
+use Rattle.rev_nodes.specs.Formed.{IsFormed}
 
 abbrev pub youngest_in : List FlatRevision → Tree
 youngest_in revisions = tree_in (places_in revisions (length revisions - 1))

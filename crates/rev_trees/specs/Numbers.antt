@@ -1,7 +1,7 @@
 -- The numbers of places: each has that of its revision and of where it stands there.
 use Rattle.std.specs.Prelude.{ℕ, ◌+◌, ◌*◌, List, [], ◌∷◌}
 use Rattle.rev_trees.specs.declared.place.Place.{Place}
-use Rattle.rev_trees.specs.Forests.{Numbered}
+use Rattle.rev_nodes.specs.Forests.{Numbered}
 use Rattle.rev_trees.specs.Flat.{node_of}
 
 abbrev pub numbered : ℕ → ℕ → Place → List ℕ × Numbered

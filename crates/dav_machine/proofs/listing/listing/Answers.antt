@@ -5,7 +5,7 @@ use Rattle.std.specs.Option.{option_copied}
 use Rattle.authz_check.specs.Access.{can_read}
 use Rattle.dav_documents.specs.Drafts.{with_elements}
 use Rattle.dav_documents.specs.Written.{Written, for_each}
-use Rattle.rev_trees.specs.declared.entry.Entry.{Entry}
+use Rattle.rev_nodes.specs.declared.entry.Entry.{Entry}
 use Rattle.dav_machine.specs.Listings.{Child, item_of, listing_text}
 use Rattle.dav_machine.specs.Shown.{StandsIn, shown_entries}
 use Rattle.dav_machine.proofs.Listed.{entries_stand, children_are}

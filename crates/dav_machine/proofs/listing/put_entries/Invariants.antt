@@ -3,7 +3,7 @@ use Rattle.std.specs.Option.{option_copied}
 use Rattle.authz_check.specs.Access.{can_read}
 use Rattle.dav_documents.specs.Drafts.{with_elements}
 use Rattle.dav_documents.specs.Written.{Written, for_each}
-use Rattle.rev_trees.specs.declared.entry.Entry.{Entry}
+use Rattle.rev_nodes.specs.declared.entry.Entry.{Entry}
 use Rattle.dav_machine.specs.Listings.{item_of}
 use Rattle.dav_machine.specs.Shown.{shown_entries}
 use Rattle.dav_machine.proofs.listing.put_entries.Given as goal

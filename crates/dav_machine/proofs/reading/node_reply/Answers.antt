@@ -1,8 +1,8 @@
 use Rattle.std.proofs.Common.{◌∙◌, Ok, sym, ap}
 use Rattle.std.specs.Option.{option_copied}
 use Rattle.dsv_base.specs.declared.reply.Reply.{Reply}
-use Rattle.rev_trees.specs.declared.kind.Kind.{Kind}
-use Rattle.rev_trees.specs.Forests.{repository_of}
+use Rattle.rev_nodes.specs.declared.kind.Kind.{Kind}
+use Rattle.rev_nodes.specs.Forests.{repository_of}
 use Rattle.dav_machine.specs.States.{opening_state}
 use Rattle.dav_machine.specs.Views.{View, view_of}
 use Rattle.dav_machine.specs.Media.{media_type}
