@@ -8,7 +8,7 @@ use Rattle.authz_file.specs.declared.joined_line.JoinedLine.{JoinedLine}
 use Rattle.authz_file.specs.declared.rules_fault.RulesFault.{RulesFault}
 use Rattle.authz_file.specs.declared.section.Section.{Section}
 use Rattle.authz_file.specs.Faults.{is_free_rules_fault}
-use Rattle.authz_file.specs.Words.{is_comma}
+use Rattle.dsv_base.specs.TextFiles.{is_comma}
 use Rattle.authz_file.specs.Entries.{entries_of}
 
 -- what stands between the commas of what is left, if anything is
