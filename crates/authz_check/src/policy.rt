@@ -7,7 +7,6 @@ ghost use Rattle.authz_check.specs.Access.{access, can_read, right_at};
 ghost use Rattle.authz_check.specs.Everywhere.{all_access, closed, everywhere, section_paths, tested, speaks_of, meets, at_least, is_no, HoldsUnder};
 ghost use Rattle.authz_check.specs.Order.{HasEach, section_rule_at};
 
-use crate::copies::copy_rules;
 use crate::demand::Demand;
 use crate::matching::meets;
 use crate::order::{order_of, places_at, places_below};
@@ -47,7 +46,7 @@ impl Policy {
         ensures { IfOk result (λ p. p ≡ record { rules = rules.now.list; name = repos.now }) }
     {
         let name = Bytes::of(alloc, repos)?;
-        let rules = copy_rules(alloc, rules.list.get())?;
+        let rules = rules.copy(alloc)?.list;
         let order = order_of(alloc, rules.get(), name.get())?;
         Ok(Policy { rules, name, order })
     }

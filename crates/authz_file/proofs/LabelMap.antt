@@ -13,7 +13,7 @@ use Rattle.std.proofs.lemmas.Cmp.{tied_itself, nat_list_cmp_total}
 use Rattle.std.proofs.lemmas.Map.Lookups.{exact_bytes}
 use Rattle.std.proofs.lemmas.Map.Text.{is_eq-slice_cmp}
 use Rattle.dsv_base.proofs.TextMaps.{order, at, lookup-inserted}
-use Rattle.authz_file.specs.declared.entry.Entry.{Entry}
+use Rattle.authz_file.specs.declared.section_entry.SectionEntry.{SectionEntry}
 use Rattle.authz_file.specs.Groups.{last_from, place_of_label}
 
 -- the last place, with one more entry at the end
@@ -21,7 +21,7 @@ later-some : (o : Option ℕ) (b : Bool) (n : ℕ) (first : Option ℕ) → opti
 later-some o true n first = refl
 later-some o false n first = refl
 
-last_from-push : (n : ℕ) (es : List Entry) (e : Entry) (label : List ℕ) → last_from n (es ++ e ∷ []) label ≡ (if bytes_eq label e.label then Some (n + length es) else last_from n es label)
+last_from-push : (n : ℕ) (es : List SectionEntry) (e : SectionEntry) (label : List ℕ) → last_from n (es ++ e ∷ []) label ≡ (if bytes_eq label e.label then Some (n + length es) else last_from n es label)
 last_from-push n [] e label = ap (λ m. if bytes_eq label e.label then Some m else None) (omega arith)
 last_from-push n (x ∷ es) e label =
     let first : Option ℕ = if bytes_eq label x.label then Some n else None in
@@ -29,12 +29,12 @@ last_from-push n (x ∷ es) e label =
     ∙ later-some (last_from (n + 1) es label) (bytes_eq label e.label) (n + 1 + length es) first
     ∙ ap (λ m. if bytes_eq label e.label then Some m else option_or (last_from (n + 1) es label) first) (omega arith)
 
-pub place_of_label-push : (es : List Entry) (e : Entry) (label : List ℕ) → place_of_label (es ++ e ∷ []) label ≡ (if bytes_eq label e.label then Some (length es) else place_of_label es label)
+pub place_of_label-push : (es : List SectionEntry) (e : SectionEntry) (label : List ℕ) → place_of_label (es ++ e ∷ []) label ≡ (if bytes_eq label e.label then Some (length es) else place_of_label es label)
 unfolding place_of_label
 place_of_label-push es e label = last_from-push 0 es e label ∙ ap (λ m. if bytes_eq label e.label then Some m else last_from 0 es label) (omega arith)
 
 -- the map and the list go together
-pub places-more : {K : Type 0} (text : K → List ℕ) (map : List (K × ℕ)) (es : List Entry) (e : Entry) (key : K) → text key ≡ e.label
+pub places-more : {K : Type 0} (text : K → List ℕ) (map : List (K × ℕ)) (es : List SectionEntry) (e : SectionEntry) (key : K) → text key ≡ e.label
     → (label : List ℕ) → lookup (at text label) map ≡ place_of_label es label
     → lookup (at text label) (insert_entry (order text) map key (length es)) ≡ place_of_label (es ++ e ∷ []) label
 places-more text map es e key same label before =
@@ -44,7 +44,7 @@ places-more text map es e key same label before =
     ∙ sym (place_of_label-push es e label)
 
 -- one step of a loop over all entries
-pub places-step : {K : Type 0} (text : K → List ℕ) (old new : List (K × ℕ)) (all : List Entry) (i : ℕ) (e : Entry) (key : K) → i < length all → e ≡ get_or all i e → text key ≡ e.label
+pub places-step : {K : Type 0} (text : K → List ℕ) (old new : List (K × ℕ)) (all : List SectionEntry) (i : ℕ) (e : SectionEntry) (key : K) → i < length all → e ≡ get_or all i e → text key ≡ e.label
     → new ≡ insert_entry (order text) old key i → (label : List ℕ) → lookup (at text label) old ≡ place_of_label (take i all) label
     → lookup (at text label) new ≡ place_of_label (take (i + 1) all) label
 places-step text old new all i e key within is same made label before =

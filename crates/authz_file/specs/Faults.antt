@@ -3,14 +3,15 @@ use Rattle.std.specs.Prelude.{ℕ, Bool, true, false, Option, None, Some}
 use Rattle.authz_file.specs.declared.rules_fault.RulesFault.{RulesFault}
 use Rattle.authz_file.specs.declared.rules_fault.RulesFault.TheVariants.{BadLine, BadSection, BadAccess, UnknownGroup, UnknownAlias, GroupCycle, NoMemory}
 
-abbrev pub is_no_memory : RulesFault → Bool
-is_no_memory (BadLine line) = false
-is_no_memory (BadSection line) = false
-is_no_memory (BadAccess line) = false
-is_no_memory (UnknownGroup line) = false
-is_no_memory (UnknownAlias line) = false
-is_no_memory (GroupCycle line) = false
-is_no_memory NoMemory = true
+-- the fault is free: want of memory
+abbrev pub is_free_rules_fault : RulesFault → Bool
+is_free_rules_fault (BadLine line) = false
+is_free_rules_fault (BadSection line) = false
+is_free_rules_fault (BadAccess line) = false
+is_free_rules_fault (UnknownGroup line) = false
+is_free_rules_fault (UnknownAlias line) = false
+is_free_rules_fault (GroupCycle line) = false
+is_free_rules_fault NoMemory = true
 
 -- the line that is named; want of memory names none
 abbrev pub line_of : RulesFault → Option ℕ

@@ -5,16 +5,20 @@ use Rattle.std.specs.Ordering.{nat_cmp}
 use Rattle.std.specs.Cmp.Lexicographic.{slice_cmp}
 use Rattle.std.specs.BTreeMap.{BTreeMap, get_by}
 use Rattle.std.specs.BTreeSet.{BTreeSet, contains}
-use Rattle.authz_file.specs.declared.entry.Entry.{Entry}
+use Rattle.authz_file.specs.declared.section_entry.SectionEntry.{SectionEntry}
 use Rattle.authz_file.specs.Groups.{named_at, place_of_label, with_name}
 
 -- a map that has per label the place of the last entry, its keys being read as texts
-abbrev pub Places : {K : Type 0} → BTreeMap K ℕ → (K → List ℕ) → List Entry → Type 0
-Places map text entries = (label : List ℕ) → get_by (λ k. slice_cmp nat_cmp label (text k)) map ≡ place_of_label entries label
+abbrev pub FindsLabels : {K : Type 0} → BTreeMap K ℕ → (K → List ℕ) → List SectionEntry → Type 0
+FindsLabels map text entries = (label : List ℕ) → get_by (λ k. slice_cmp nat_cmp label (text k)) map ≡ place_of_label entries label
 
 -- the list has the number
 abbrev pub Has : List ℕ → ℕ → Type 0
 Has xs q = list_any (nat_eq q) xs ≡ true
+
+-- two lists have the same numbers
+abbrev pub HaveSame : List ℕ → List ℕ → Type 0
+HaveSame xs ys = (q : ℕ) → list_any (nat_eq q) xs ≡ list_any (nat_eq q) ys
 
 -- every place that is named is that of an entry
 abbrev pub IsGraph : List (List ℕ) → Type 0
@@ -24,6 +28,7 @@ IsGraph graph = (place named : ℕ) → Has (named_at graph place) named → nam
 abbrev pub with_place : List ℕ → ℕ → List ℕ
 with_place places place = if list_any (nat_eq place) places then places else places ++ place ∷ []
 
+-- places added behind others, each unless it is among them
 abbrev pub with_places : List ℕ → List ℕ → List ℕ
 with_places places [] = places
 with_places places (p ∷ ps) = with_places (with_place places p) ps
@@ -40,6 +45,10 @@ with_names names (n ∷ ns) = with_names (with_name names n) ns
 -- the names of a set, its keys being read as texts
 abbrev pub texts : {K : Type 0} → (K → List ℕ) → BTreeSet K → List (List ℕ)
 texts text set = map text set.keys
+
+-- a set has the names of another, and these, its keys being read as texts
+abbrev pub AddsNames : {K : Type 0} → (K → List ℕ) → BTreeSet K → BTreeSet K → List (List ℕ) → Type 0
+AddsNames text old new names = texts text new ≡ with_names (texts text old) names
 
 -- no entry names a place of a higher rank
 abbrev pub NeverRises : List (List ℕ) → List ℕ → Type 0

@@ -1,19 +1,19 @@
 ghost use Rattle.std.specs.Prelude.{◌≡◌, ◌∷◌, ◌++◌, None, Some, IfOk, IfErr, OnOk};
 ghost use Rattle.dsv_base.specs.Gives.{Gives};
-ghost use Rattle.authz_file.specs.Faults.{is_no_memory};
+ghost use Rattle.authz_file.specs.Faults.{is_free_rules_fault};
 ghost use Rattle.authz_file.specs.Words.{own_words};
 ghost use Rattle.authz_file.specs.Sections.{place_name};
-ghost use Rattle.authz_file.specs.Entries.{group_entry, alias_entry, grant_entry, entry_in, entry_at, section_at, entries_of};
-ghost use Rattle.authz_file.specs.Reading.{Reads, Refuses};
+ghost use Rattle.authz_file.specs.Entries.{group_entry, alias_entry, grant_entry, entry_under, entry_at, section_at, entries_of};
+ghost use Rattle.authz_file.specs.Reading.{ReadsLine, RefusesLine};
 
-use crate::entry::Entry;
 use crate::grant::Grant;
 use crate::items::words_of;
-use crate::line::Line;
-use crate::place::Place;
+use crate::joined_line::JoinedLine;
 use crate::rules_fault::RulesFault;
 use crate::section::Section;
-use crate::sections::{copy_place, section_of};
+use crate::section_entry::SectionEntry;
+use crate::section_place::SectionPlace;
+use crate::sections::section_of;
 use crate::who::Who;
 use crate::words::{is_negated, is_user, key_value, principal_of, right_of, who_of};
 use dsv_base::{Bytes, List, NoMemory};
@@ -30,7 +30,7 @@ fn sigil_label(alloc: Global, sigil: u8, key: &[u8]) -> Result<Bytes, NoMemory>
 }
 
 /// The name of a section, without the slash that may be dropped.
-fn place_name(alloc: Global, place: &Place) -> Result<Vec<u8>, NoMemory>
+fn place_name(alloc: Global, place: &SectionPlace) -> Result<Vec<u8>, NoMemory>
     ensures { IfOk result (λ name. name.items ≡ place_name place.now.repos place.now.path) }
 {
     match &place.repos {
@@ -45,7 +45,7 @@ fn place_name(alloc: Global, place: &Place) -> Result<Vec<u8>, NoMemory>
 }
 
 /// The label of a principal in a path section.
-fn grant_label(alloc: Global, place: &Place, key: &[u8]) -> Result<Bytes, NoMemory>
+fn grant_label(alloc: Global, place: &SectionPlace, key: &[u8]) -> Result<Bytes, NoMemory>
     ensures { IfOk result (λ label. label ≡ place_name place.now.repos place.now.path ++ 10 ∷ key.now) }
 {
     let mut label = place_name(alloc, place)?;
@@ -71,15 +71,20 @@ fn own_words(alloc: Global, who: Who, principal: &[u8]) -> Result<List<Bytes>, N
 
 /// A line of `[groups]`.
 #[tactic(auto, unfolding(crate::specs::Entries::group_entry))]
-fn group_entry(alloc: Global, line: u32, key: &[u8], value: &[u8]) -> Result<Entry, RulesFault>
-    ensures { Gives is_no_memory result (group_entry line key.now value.now) }
+fn group_entry(
+    alloc: Global,
+    line: u32,
+    key: &[u8],
+    value: &[u8],
+) -> Result<SectionEntry, RulesFault>
+    ensures { Gives is_free_rules_fault result (group_entry line key.now value.now) }
 {
     let words = match words_of(alloc, value)? {
         Some(words) => words,
         None => return Err(RulesFault::BadLine { line }),
     };
     let label = sigil_label(alloc, b'@', key)?;
-    Ok(Entry {
+    Ok(SectionEntry {
         line,
         label,
         words,
@@ -89,15 +94,20 @@ fn group_entry(alloc: Global, line: u32, key: &[u8], value: &[u8]) -> Result<Ent
 
 /// A line of `[aliases]`.
 #[tactic(auto, unfolding(crate::specs::Entries::alias_entry))]
-fn alias_entry(alloc: Global, line: u32, key: &[u8], value: &[u8]) -> Result<Entry, RulesFault>
-    ensures { Gives is_no_memory result (alias_entry line key.now value.now) }
+fn alias_entry(
+    alloc: Global,
+    line: u32,
+    key: &[u8],
+    value: &[u8],
+) -> Result<SectionEntry, RulesFault>
+    ensures { Gives is_free_rules_fault result (alias_entry line key.now value.now) }
 {
     if !is_user(value) {
         return Err(RulesFault::BadLine { line });
     }
     let label = sigil_label(alloc, b'&', key)?;
     let words = own_words(alloc, Who::Word, value)?;
-    Ok(Entry {
+    Ok(SectionEntry {
         line,
         label,
         words,
@@ -109,12 +119,12 @@ fn alias_entry(alloc: Global, line: u32, key: &[u8], value: &[u8]) -> Result<Ent
 #[tactic(auto, unfolding(crate::specs::Entries::grant_entry))]
 fn grant_entry(
     alloc: Global,
-    place: &Place,
+    place: &SectionPlace,
     line: u32,
     key: &[u8],
     value: &[u8],
-) -> Result<Entry, RulesFault>
-    ensures { Gives is_no_memory result (grant_entry place.now line key.now value.now) }
+) -> Result<SectionEntry, RulesFault>
+    ensures { Gives is_free_rules_fault result (grant_entry place.now line key.now value.now) }
 {
     let principal = principal_of(key);
     let who = match who_of(principal) {
@@ -127,7 +137,7 @@ fn grant_entry(
     };
     let label = grant_label(alloc, place, key)?;
     let words = own_words(alloc, who, principal)?;
-    let place = copy_place(place)?;
+    let place = place.copy()?;
     let negated = is_negated(key);
     let grant = Some(Grant {
         place,
@@ -135,7 +145,7 @@ fn grant_entry(
         who,
         right,
     });
-    Ok(Entry {
+    Ok(SectionEntry {
         line,
         label,
         words,
@@ -143,14 +153,14 @@ fn grant_entry(
     })
 }
 
-fn entry_in(
+fn entry_under(
     alloc: Global,
     section: &Option<Section>,
     line: u32,
     key: &[u8],
     value: &[u8],
-) -> Result<Entry, RulesFault>
-    ensures { Gives is_no_memory result (entry_in section.now line key.now value.now) }
+) -> Result<SectionEntry, RulesFault>
+    ensures { Gives is_free_rules_fault result (entry_under section.now line key.now value.now) }
 {
     match section {
         None => Err(RulesFault::BadLine { line }),
@@ -167,18 +177,18 @@ fn entry_at(
     section: &Option<Section>,
     line: u32,
     text: &[u8],
-) -> Result<Entry, RulesFault>
-    ensures { Gives is_no_memory result (entry_at section.now line text.now) }
+) -> Result<SectionEntry, RulesFault>
+    ensures { Gives is_free_rules_fault result (entry_at section.now line text.now) }
 {
     match key_value(text) {
         None => Err(RulesFault::BadLine { line }),
-        Some((key, value)) => entry_in(alloc, section, line, key, value),
+        Some((key, value)) => entry_under(alloc, section, line, key, value),
     }
 }
 
 /// The section that a line begins.
 fn section_at(alloc: Global, line: u32, text: &[u8]) -> Result<Section, RulesFault>
-    ensures { Gives is_no_memory result (section_at line text.now) }
+    ensures { Gives is_free_rules_fault result (section_at line text.now) }
 {
     match section_of(alloc, text)? {
         Some(section) => Ok(section),
@@ -190,23 +200,23 @@ fn section_at(alloc: Global, line: u32, text: &[u8]) -> Result<Section, RulesFau
 #[derive(Drop)]
 struct Reading {
     section: Option<Section>,
-    entries: Vec<Entry>,
+    entries: Vec<SectionEntry>,
 }
 
 impl Reading {
     #[tactic(auto, unfolding(crate::specs::Entries::entries_of))]
-    fn read_line(&mut self, alloc: Global, line: &Line) -> Result<(), RulesFault>
-        ensures ok { OnOk result (Reads (self.old.section, self.old.entries.items) line.now (self.new.section, self.new.entries.items)) }
-        ensures err { IfErr result (Refuses self.old.section line.now) }
+    fn read_line(&mut self, alloc: Global, line: &JoinedLine) -> Result<(), RulesFault>
+        ensures ok { OnOk result (ReadsLine self.old line.now self.new) }
+        ensures err { IfErr result (RefusesLine self.old.section line.now) }
     {
         match line {
-            Line::Stray { number } => Err(RulesFault::BadLine { line: *number }),
-            Line::Head { number, text } => {
+            JoinedLine::Stray { number } => Err(RulesFault::BadLine { line: *number }),
+            JoinedLine::Head { number, text } => {
                 let section = section_at(alloc, *number, text.get())?;
                 self.section = Some(section);
                 Ok(())
             }
-            Line::Body { number, text } => {
+            JoinedLine::Body { number, text } => {
                 let entry = entry_at(alloc, &self.section, *number, text.get())?;
                 self.entries.push(entry)?;
                 Ok(())
@@ -214,7 +224,7 @@ impl Reading {
         }
     }
 
-    fn into_entries(self) -> List<Entry>
+    fn into_entries(self) -> List<SectionEntry>
         ensures { result ≡ self.entries.items }
     {
         let Reading { entries, .. } = self;
@@ -224,8 +234,11 @@ impl Reading {
 
 /// The entries of the lines, or the first line that breaks the grammar.
 #[tactic(auto, unfolding(crate::specs::Entries::entries_of))]
-pub fn entries_of(alloc: Global, lines: &[Line]) -> Result<List<Entry>, RulesFault>
-    ensures { Gives is_no_memory result (entries_of None lines.now) }
+pub(crate) fn entries_of(
+    alloc: Global,
+    lines: &[JoinedLine],
+) -> Result<List<SectionEntry>, RulesFault>
+    ensures { Gives is_free_rules_fault result (entries_of None lines.now) }
 {
     let mut reading = Reading {
         section: None,

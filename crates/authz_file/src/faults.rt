@@ -5,11 +5,11 @@ ghost use Rattle.authz_file.specs.Searching.{IsGraph, NeverRises};
 ghost use Rattle.authz_file.specs.Resolving.{unknown, word_fault, words_fault, entry_fault, faults_from};
 
 use crate::book::Book;
-use crate::entry::Entry;
 use crate::graph::named_at;
 use crate::ranks::{is_clear, ranks_of};
 use crate::rules_fault::RulesFault;
 use crate::search::reached_by;
+use crate::section_entry::SectionEntry;
 use crate::words::is_user;
 use dsv_base::{Bytes, List, NoMemory};
 use std::alloc::Global;
@@ -71,7 +71,7 @@ fn entry_fault(
     graph: &[List<usize>],
     ranks: &[usize],
     place: usize,
-    entry: &Entry,
+    entry: &SectionEntry,
 ) -> Result<Option<RulesFault>, NoMemory>
     requires graph { graph.now ≡ targets book.now }
     requires ranks { NeverRises graph.now ranks.now }
@@ -90,7 +90,7 @@ fn entry_fault(
 }
 
 /// The first fault of all entries. The one error is want of memory.
-pub fn first_fault(
+pub(crate) fn first_fault(
     alloc: Global,
     book: &Book,
     graph: &[List<usize>],

@@ -1,7 +1,7 @@
 ghost use Rattle.std.specs.Prelude.{◌≡◌, ◌<◌, ◌≤◌, ◌∷◌, [], false, length, IfOk, IfSome, IfNone, All, take, slice_index, option_copied, map};
 ghost use Rattle.std.specs.List.{slice_split};
-ghost use Rattle.dsv_base.specs.TextFiles.{left_size, trimmed};
-ghost use Rattle.authz_file.specs.Words.{is_comma, words_if, words_of};
+ghost use Rattle.dsv_base.specs.TextFiles.{is_comma, left_size, trimmed};
+ghost use Rattle.authz_file.specs.Words.{words_if, words_of};
 ghost use Rattle.authz_file.specs.Reading.{items_left};
 
 use crate::words::is_word;
@@ -50,7 +50,7 @@ fn items_of(alloc: Global, value: &[u8]) -> Result<Option<List<Bytes>>, NoMemory
 
 /// What a group holds; `None` where an item is no word. The one error is want of memory.
 #[tactic(auto, unfolding(crate::specs::Words::words_of))]
-pub fn words_of(alloc: Global, value: &[u8]) -> Result<Option<List<Bytes>>, NoMemory>
+pub(crate) fn words_of(alloc: Global, value: &[u8]) -> Result<Option<List<Bytes>>, NoMemory>
     ensures { IfOk result (λ words. words ≡ words_of value.now) }
 {
     if value.is_empty() {

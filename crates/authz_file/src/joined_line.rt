@@ -3,7 +3,7 @@ use dsv_base::Bytes;
 /// A line of the file with those that continue it, by the number of its first line. Skipped lines
 /// are none.
 #[derive(Debug, Drop)]
-pub enum Line {
+pub(crate) enum JoinedLine {
     /// It begins with `[`.
     Head { number: u32, text: Bytes },
     /// Any other, which may be continued.

@@ -1,8 +1,8 @@
 ghost use Rattle.std.specs.Prelude.{◌≡◌, ◌≤◌, ◌++◌, false, IfOk, OnOk, length, option_copied, option_to_list};
 ghost use Rattle.dsv_base.specs.TextFiles.{file_lines, lines_left};
-ghost use Rattle.authz_file.specs.Lines.{is_indented, is_head, continued, line_gives, opens, joined_lines};
+ghost use Rattle.authz_file.specs.Lines.{is_indented, begins_section, continued, line_before, opens, joined_lines};
 
-use crate::line::Line;
+use crate::joined_line::JoinedLine;
 use dsv_base::{Bytes, NoMemory, is_skipped, next_line, without_front};
 use std::alloc::Global;
 
@@ -17,8 +17,8 @@ fn is_indented(line: &[u8]) -> bool
 }
 
 /// Whether it begins with `[`.
-fn is_head(line: &[u8]) -> bool
-    ensures { result ≡ is_head line.now }
+fn begins_section(line: &[u8]) -> bool
+    ensures { result ≡ begins_section line.now }
 {
     match line {
         [b'[', ..] => true,
@@ -55,8 +55,8 @@ fn line_gives(
     number: u32,
     line: &[u8],
     after: Option<&[u8]>,
-) -> Result<Option<Line>, NoMemory>
-    ensures { IfOk result (λ given. option_to_list given ≡ line_gives begun number line.now (continued (lines_left (option_copied after.entry)))) }
+) -> Result<Option<JoinedLine>, NoMemory>
+    ensures { IfOk result (λ given. option_to_list given ≡ line_before begun number line.now (option_copied after.entry)) }
 {
     if is_skipped(line) {
         return Ok(None);
@@ -65,14 +65,14 @@ fn line_gives(
         if begun {
             return Ok(None);
         }
-        return Ok(Some(Line::Stray { number }));
+        return Ok(Some(JoinedLine::Stray { number }));
     }
-    if is_head(line) {
+    if begins_section(line) {
         let text = Bytes::of(alloc, line)?;
-        return Ok(Some(Line::Head { number, text }));
+        return Ok(Some(JoinedLine::Head { number, text }));
     }
     let text = with_continued(alloc, line, after)?;
-    Ok(Some(Line::Body { number, text }))
+    Ok(Some(JoinedLine::Body { number, text }))
 }
 
 /// Whether the line after this one may continue one.
@@ -85,10 +85,10 @@ fn opens(begun: bool, line: &[u8]) -> bool
     if is_indented(line) {
         return begun;
     }
-    !is_head(line)
+    !begins_section(line)
 }
 
-fn push_line(lines: &mut Vec<Line>, given: Option<Line>) -> Result<(), NoMemory>
+fn push_line(lines: &mut Vec<JoinedLine>, given: Option<JoinedLine>) -> Result<(), NoMemory>
     ensures { OnOk result (lines.new.items ≡ lines.old.items ++ option_to_list given) }
 {
     match given {
@@ -103,7 +103,7 @@ fn push_line(lines: &mut Vec<Line>, given: Option<Line>) -> Result<(), NoMemory>
 /// The lines of the file that aren't skipped, each with those that continue it. The one error is
 /// want of memory.
 #[tactic(auto, unfolding(crate::specs::Lines::joined_lines))]
-pub fn joined_lines(alloc: Global, bytes: &[u8]) -> Result<Vec<Line>, NoMemory>
+pub(crate) fn joined_lines(alloc: Global, bytes: &[u8]) -> Result<Vec<JoinedLine>, NoMemory>
     requires { length bytes.now ≤ 268435456 }
     ensures { IfOk result (λ lines. lines.items ≡ joined_lines false 1 (file_lines bytes.now)) }
 {

@@ -46,7 +46,7 @@ fn never_rise(graph: &[List<usize>], ranks: &[usize]) -> bool
 
 /// Ranks that never rise along the graph, so that a search can be spared where they fall. The one
 /// error is want of memory.
-pub fn ranks_of(alloc: Global, graph: &[List<usize>]) -> Result<Vec<usize>, NoMemory>
+pub(crate) fn ranks_of(alloc: Global, graph: &[List<usize>]) -> Result<Vec<usize>, NoMemory>
     ensures { IfOk result (λ ranks. NeverRises graph.now ranks.items) }
 {
     let ranks = parts_of(alloc, graph)?;
@@ -57,7 +57,7 @@ pub fn ranks_of(alloc: Global, graph: &[List<usize>]) -> Result<Vec<usize>, NoMe
 }
 
 /// Whether the ranks show that the entry doesn't reach itself; `false` says nothing.
-pub fn is_clear(graph: &[List<usize>], ranks: &[usize], place: usize) -> bool
+pub(crate) fn is_clear(graph: &[List<usize>], ranks: &[usize], place: usize) -> bool
     requires { NeverRises graph.now ranks.now }
     ensures { IsTrue result → is_circular graph.now place ≡ false }
 {

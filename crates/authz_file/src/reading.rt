@@ -1,22 +1,22 @@
 ghost use Rattle.std.specs.Prelude.{◌≤◌, length};
 ghost use Rattle.dsv_base.specs.Gives.{Gives};
-ghost use Rattle.authz_file.specs.Faults.{is_no_memory};
+ghost use Rattle.authz_file.specs.Faults.{is_free_rules_fault};
 ghost use Rattle.authz_file.specs.Entries.{file_entries};
 ghost use Rattle.authz_file.specs.Resolving.{rules_of};
 
 use crate::entries::entries_of;
-use crate::entry::Entry;
 use crate::lines::joined_lines;
 use crate::resolving::resolved;
 use crate::rules::Rules;
 use crate::rules_fault::RulesFault;
+use crate::section_entry::SectionEntry;
 use dsv_base::List;
 use std::alloc::Global;
 
 #[tactic(auto, unfolding(crate::specs::Entries::file_entries))]
-fn file_entries(alloc: Global, bytes: &[u8]) -> Result<List<Entry>, RulesFault>
+fn file_entries(alloc: Global, bytes: &[u8]) -> Result<List<SectionEntry>, RulesFault>
     requires { length bytes.now ≤ 268435456 }
-    ensures { Gives is_no_memory result (file_entries bytes.now) }
+    ensures { Gives is_free_rules_fault result (file_entries bytes.now) }
 {
     let lines = joined_lines(alloc, bytes)?;
     let entries = entries_of(alloc, lines.as_slice())?;
@@ -35,7 +35,7 @@ fn file_entries(alloc: Global, bytes: &[u8]) -> Result<List<Entry>, RulesFault>
 #[tactic(auto, unfolding(crate::specs::Resolving::rules_of))]
 pub fn read_rules(alloc: Global, bytes: &[u8]) -> Result<Rules, RulesFault>
     requires { length bytes.now ≤ 268435456 }
-    ensures { Gives is_no_memory result (rules_of bytes.now) }
+    ensures { Gives is_free_rules_fault result (rules_of bytes.now) }
 {
     let entries = file_entries(alloc, bytes)?;
     resolved(alloc, entries)

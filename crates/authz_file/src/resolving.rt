@@ -1,20 +1,19 @@
 ghost use Rattle.std.specs.Prelude.{◌≡◌, ◌<◌, ◌++◌, length, option_to_list, IfOk, OnOk};
 ghost use Rattle.dsv_base.specs.Gives.{Gives};
-ghost use Rattle.authz_file.specs.Faults.{is_no_memory};
+ghost use Rattle.authz_file.specs.Faults.{is_free_rules_fault};
 ghost use Rattle.authz_file.specs.Groups.{names_at, place_of_label, targets};
 ghost use Rattle.authz_file.specs.Resolving.{base_of, entry_rule, granted, is_place, resolved, rules_from};
 
 use crate::base::Base;
 use crate::book::Book;
-use crate::entry::Entry;
 use crate::faults::first_fault;
 use crate::grant::Grant;
 use crate::graph::targets;
 use crate::names::names_at;
-use crate::rule::Rule;
+use crate::rule::{Rule, copy_repos};
 use crate::rules::Rules;
 use crate::rules_fault::RulesFault;
-use crate::sections::copy_repos;
+use crate::section_entry::SectionEntry;
 use crate::who::Who;
 use dsv_base::{List, NoMemory};
 use std::alloc::Global;
@@ -83,7 +82,7 @@ fn entry_rule(
     book: &Book,
     graph: &[List<usize>],
     place: usize,
-    entry: &Entry,
+    entry: &SectionEntry,
 ) -> Result<Option<Rule>, NoMemory>
     requires graph { graph.now ≡ targets book.now }
     requires place { place < length book.now }
@@ -129,8 +128,8 @@ fn rules_of(alloc: Global, book: &Book, graph: &[List<usize>]) -> Result<List<Ru
 /// The rules of the entries, or the first line with a word that names nothing, or with a group
 /// that holds itself.
 #[tactic(auto, unfolding(crate::specs::Resolving::resolved))]
-pub fn resolved(alloc: Global, entries: List<Entry>) -> Result<Rules, RulesFault>
-    ensures { Gives is_no_memory result (resolved entries) }
+pub(crate) fn resolved(alloc: Global, entries: List<SectionEntry>) -> Result<Rules, RulesFault>
+    ensures { Gives is_free_rules_fault result (resolved entries) }
 {
     let book = Book::of(alloc, entries)?;
     let graph = targets(alloc, &book)?;

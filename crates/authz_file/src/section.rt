@@ -1,9 +1,9 @@
-use crate::place::Place;
+use crate::section_place::SectionPlace;
 
 /// The three kinds of section.
 #[derive(Debug, Drop)]
-pub enum Section {
+pub(crate) enum Section {
     Groups,
     Aliases,
-    At(Place),
+    At(SectionPlace),
 }

@@ -8,9 +8,9 @@ use dsv_base::{Bytes, List};
 /// counts. Its words are the user names, `@GROUP` and `&ALIAS` that it speaks of: a word of the
 /// latter two kinds is the label of what it names.
 #[derive(Debug, Drop)]
-pub struct Entry {
-    pub line: u32,
-    pub label: Bytes,
-    pub words: List<Bytes>,
-    pub grant: Option<Grant>,
+pub(crate) struct SectionEntry {
+    pub(crate) line: u32,
+    pub(crate) label: Bytes,
+    pub(crate) words: List<Bytes>,
+    pub(crate) grant: Option<Grant>,
 }

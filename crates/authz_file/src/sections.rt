@@ -1,9 +1,9 @@
 ghost use Rattle.std.specs.Prelude.{◌≡◌, ◌≤◌, ◌<◌, ◌&&◌, ◌==◌, ◌∷◌, ◌++◌, [], None, Some, IfOk, length, option_copied, option_map, if◌then◌else◌};
 ghost use Rattle.dsv_base.specs.Paths.{is_path};
-ghost use Rattle.authz_file.specs.Sections.{bracketed, begins_cut, section_path, split_repos, at_path, at_repos, place_of, section_named, place_name, section_of};
+ghost use Rattle.authz_file.specs.Sections.{bracketed, begins_cut, section_path, split_repos, path_place, at_repos, place_of, section_named, place_name, section_of};
 
-use crate::place::Place;
 use crate::section::Section;
+use crate::section_place::SectionPlace;
 use dsv_base::{Bytes, NoMemory, Path, PathFault, is_repository_name};
 use std::alloc::Global;
 
@@ -71,22 +71,26 @@ fn split_repos(name: &[u8]) -> Option<(&[u8], &[u8])>
 }
 
 /// The place of a path that stands after a repository's name, or without one.
-fn at_path(alloc: Global, repos: Option<Bytes>, text: &[u8]) -> Result<Option<Place>, NoMemory>
-    ensures { IfOk result (λ place. place ≡ at_path repos (section_path text.now)) }
+fn path_place(
+    alloc: Global,
+    repos: Option<Bytes>,
+    text: &[u8],
+) -> Result<Option<SectionPlace>, NoMemory>
+    ensures { IfOk result (λ place. place ≡ path_place repos (section_path text.now)) }
 {
     match section_path(alloc, text)? {
         None => Ok(None),
-        Some(path) => Ok(Some(Place { repos, path })),
+        Some(path) => Ok(Some(SectionPlace { repos, path })),
     }
 }
 
 /// The place of a section's name.
 #[tactic(auto, unfolding(crate::specs::Sections::place_of))]
-fn place_of(alloc: Global, name: &[u8]) -> Result<Option<Place>, NoMemory>
+fn place_of(alloc: Global, name: &[u8]) -> Result<Option<SectionPlace>, NoMemory>
     ensures { IfOk result (λ place. place ≡ place_of name.now) }
 {
     if let [b'/', ..] = name {
-        return at_path(alloc, None, name);
+        return path_place(alloc, None, name);
     }
     match split_repos(name) {
         None => Ok(None),
@@ -95,7 +99,7 @@ fn place_of(alloc: Global, name: &[u8]) -> Result<Option<Place>, NoMemory>
                 return Ok(None);
             }
             let repos = Bytes::of(alloc, repos)?;
-            at_path(alloc, Some(repos), path)
+            path_place(alloc, Some(repos), path)
         }
     }
 }
@@ -117,30 +121,11 @@ fn section_named(alloc: Global, name: &[u8]) -> Result<Option<Section>, NoMemory
 }
 
 /// The section that a line begins, if it is one. The one error is want of memory.
-pub fn section_of(alloc: Global, text: &[u8]) -> Result<Option<Section>, NoMemory>
+pub(crate) fn section_of(alloc: Global, text: &[u8]) -> Result<Option<Section>, NoMemory>
     ensures { IfOk result (λ section. section ≡ section_of text.now) }
 {
     match bracketed(text) {
         None => Ok(None),
         Some(name) => section_named(alloc, name),
     }
-}
-
-/// A copy of a repository's name, if there is one. Its one error is want of memory.
-pub fn copy_repos(repos: &Option<Bytes>) -> Result<Option<Bytes>, NoMemory>
-    ensures { IfOk result (λ copy. copy ≡ repos.now) }
-{
-    match repos {
-        None => Ok(None),
-        Some(name) => Ok(Some(name.copy()?)),
-    }
-}
-
-/// A copy. Its one error is want of memory.
-pub fn copy_place(place: &Place) -> Result<Place, NoMemory>
-    ensures { IfOk result (λ copy. copy ≡ place.now) }
-{
-    let repos = copy_repos(&place.repos)?;
-    let path = place.path.copy()?;
-    Ok(Place { repos, path })
 }

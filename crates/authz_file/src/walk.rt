@@ -143,7 +143,7 @@ impl Walk {
 
 /// Numbers of the strongly connected parts, meant to fall along the graph and to be equal only
 /// within a part.
-pub fn parts_of(alloc: Global, graph: &[List<usize>]) -> Result<Vec<usize>, NoMemory> {
+pub(crate) fn parts_of(alloc: Global, graph: &[List<usize>]) -> Result<Vec<usize>, NoMemory> {
     let mut walk = Walk::new(alloc, graph.len())?;
     for place in 0..graph.len() {
         walk.walk_from(graph, place)?;

@@ -1,6 +1,6 @@
 /// The kinds of principal.
 #[derive(Clone, Copy, Debug, PartialEq, Eq)]
-pub enum Who {
+pub(crate) enum Who {
     All,
     LoggedIn,
     Anonymous,

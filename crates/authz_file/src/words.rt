@@ -1,6 +1,6 @@
 ghost use Rattle.std.specs.Prelude.{◌≡◌, ◌∷◌, ◌<◌, [], None, Some, length, option_map, position, IfSome};
-ghost use Rattle.dsv_base.specs.TextFiles.{begins_with};
-ghost use Rattle.authz_file.specs.Words.{is_separator, is_user, is_word, is_comma, key_value, who_of, right_of, is_negated, principal_of};
+ghost use Rattle.dsv_base.specs.TextFiles.{begins_with, is_comma};
+ghost use Rattle.authz_file.specs.Words.{is_separator, is_user, is_word, key_value, who_of, right_of, is_negated, principal_of};
 
 use crate::right::Right;
 use crate::who::Who;
@@ -17,7 +17,7 @@ fn separator(text: &[u8]) -> Option<usize>
 /// What stands around the first separator, without blanks; `None` without one, or where nothing
 /// stands before it.
 #[tactic(auto, unfolding(crate::specs::Words::key_value))]
-pub fn key_value(text: &[u8]) -> Option<(&[u8], &[u8])>
+pub(crate) fn key_value(text: &[u8]) -> Option<(&[u8], &[u8])>
     ensures { option_map (λ p. (p.0.now, p.1.now)) result ≡ key_value text.now }
 {
     let at = match separator(text) {
@@ -32,7 +32,7 @@ pub fn key_value(text: &[u8]) -> Option<(&[u8], &[u8])>
 }
 
 /// Whether it can be the name of a user.
-pub fn is_user(text: &[u8]) -> bool
+pub(crate) fn is_user(text: &[u8]) -> bool
     ensures { result ≡ is_user text.now }
 {
     match text {
@@ -43,7 +43,7 @@ pub fn is_user(text: &[u8]) -> bool
 }
 
 /// Whether it is the name of a user, or stands for a group or an alias.
-pub fn is_word(text: &[u8]) -> bool
+pub(crate) fn is_word(text: &[u8]) -> bool
     ensures { result ≡ is_word text.now }
 {
     match text {
@@ -54,7 +54,7 @@ pub fn is_word(text: &[u8]) -> bool
 }
 
 /// Whether it begins with `~`.
-pub fn is_negated(key: &[u8]) -> bool
+pub(crate) fn is_negated(key: &[u8]) -> bool
     ensures { result ≡ is_negated key.now }
 {
     match key {
@@ -64,7 +64,7 @@ pub fn is_negated(key: &[u8]) -> bool
 }
 
 /// The principal, without the `~` that may stand before it.
-pub fn principal_of(key: &[u8]) -> &[u8]
+pub(crate) fn principal_of(key: &[u8]) -> &[u8]
     ensures { result.now ≡ principal_of key.now }
 {
     match key {
@@ -75,7 +75,7 @@ pub fn principal_of(key: &[u8]) -> &[u8]
 
 /// The kind of a principal.
 #[tactic(auto, unfolding(crate::specs::Words::who_of))]
-pub fn who_of(principal: &[u8]) -> Option<Who>
+pub(crate) fn who_of(principal: &[u8]) -> Option<Who>
     ensures { result ≡ who_of principal.now }
 {
     if principal == b"*".as_slice() {
@@ -96,7 +96,7 @@ pub fn who_of(principal: &[u8]) -> Option<Who>
 
 /// What an access value gives.
 #[tactic(auto, unfolding(crate::specs::Words::right_of))]
-pub fn right_of(value: &[u8]) -> Option<Right>
+pub(crate) fn right_of(value: &[u8]) -> Option<Right>
     ensures { result ≡ right_of value.now }
 {
     if value.is_empty() {

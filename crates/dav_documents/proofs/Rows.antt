@@ -1,13 +1,26 @@
 -- Small trees, and what the definition says of their bytes.
-use Rattle.std.proofs.Common.{◌≡◌, true, false, [], ◌∷◌, length, refl}
+use Rattle.std.proofs.Common.{◌≡◌, ℕ, List, true, false, [], ◌∷◌, length, refl}
 use Rattle.std.specs.Prelude.{codes}
 use Rattle.std.specs.Str.{is_utf8, chars}
 use lib.Utf8.{encode}
 use Rattle.dsv_base.specs.Escapes.{xml_text, xml_plain}
 use Rattle.dav_documents.specs.Plain.{is_written_name}
-use Rattle.dav_documents.specs.Written.{Nothing, Element, attribute, empty_element, text_element, element, joined, all_of, written_text, page_text, body_text, is_plain}
+use Rattle.dav_documents.specs.declared.namespace.Namespace.TheVariants.{Dav, ApacheDav}
+use Rattle.dav_documents.specs.Written.{Written, Nothing, Element, attribute, binding, for_each, empty_element, text_element, element, joined, all_of, written_text, page_text, body_text, is_plain}
 use Rattle.dav_documents.specs.Namespaces.{uri_of}
-use Rattle.dav_documents.specs.Examples.{error_of, listing_of}
+
+-- one element with an attribute and a text in another
+abbrev error_of : List ℕ → List ℕ → Written
+error_of code text =
+    element (codes "D:error") (binding (codes "D") (uri_of Dav) ∷ binding (codes "m") (uri_of ApacheDav) ∷ [])
+    (text_element (codes "m:human-readable") (attribute (codes "errcode") code ∷ []) text)
+
+-- two elements, one in the other, for each name
+abbrev item_of : List ℕ → Written
+item_of name = element (codes "li") [] (text_element (codes "a") (attribute (codes "href") name ∷ []) name)
+
+abbrev listing_of : List (List ℕ) → Written
+listing_of names = element (codes "html") [] (element (codes "body") [] (element (codes "ul") [] (for_each item_of names)))
 
 -- what is escaped, and what isn't
 escaped_all : xml_text (codes "a&b<c>d\"e\rf'g\t\n") ≡ codes "a&amp;b&lt;c&gt;d&quot;e&#13;f'g\t\n"

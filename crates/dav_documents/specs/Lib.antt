@@ -2,4 +2,3 @@ pub mod Plain
 pub mod Written
 pub mod Drafts
 pub mod Namespaces
-pub mod Examples

@@ -3,6 +3,7 @@ use Rattle.std.specs.Prelude.{ℕ, List, codes}
 use Rattle.dav_documents.specs.declared.namespace.Namespace.{Namespace}
 use Rattle.dav_documents.specs.declared.namespace.Namespace.TheVariants.{Dav, Svn, SubversionDav, SubversionSvn, SubversionCustom, ApacheDav}
 
+-- the name of a namespace, as an attribute `xmlns` tells it
 unfoldable pub uri_of : Namespace → List ℕ
 uri_of Dav = codes "DAV:"
 uri_of Svn = codes "svn:"

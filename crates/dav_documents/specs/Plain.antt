@@ -9,10 +9,10 @@ abbrev pub begins_name : ℕ → Bool
 begins_name b = is_ascii_alphabetic b || b == 95 || nat_le 128 b
 
 -- these, a digit, `-`, `.`, or the `:` behind a prefix
-abbrev pub is_name_byte : ℕ → Bool
-is_name_byte b = begins_name b || is_ascii_digit b || b == 45 || b == 46 || b == 58
+abbrev pub is_written_name_byte : ℕ → Bool
+is_written_name_byte b = begins_name b || is_ascii_digit b || b == 45 || b == 46 || b == 58
 
 -- a name as it is written; how a prefix is cut off, and that there is one at most, is asked where names are resolved
 unfoldable pub is_written_name : List ℕ → Bool
 is_written_name [] = false
-is_written_name (b ∷ bs) = begins_name b && list_all is_name_byte bs && xml_plain (b ∷ bs)
+is_written_name (b ∷ bs) = begins_name b && list_all is_written_name_byte bs && xml_plain (b ∷ bs)

@@ -16,6 +16,7 @@ pub data Written : Type 0 where
 
 -- ---- trees by their parts
 
+-- an attribute by its two parts
 abbrev pub attribute : List ℕ → List ℕ → Attribute
 attribute name value = record { name = name; value = value }
 
@@ -23,13 +24,15 @@ attribute name value = record { name = name; value = value }
 abbrev pub binding : List ℕ → List ℕ → Attribute
 binding prefix space = attribute (codes "xmlns:" ++ prefix) space
 
--- one element that holds nothing, a text, or elements
+-- one element that holds nothing
 abbrev pub empty_element : List ℕ → List Attribute → Written
 empty_element name attributes = Element name attributes [] Nothing Nothing
 
+-- one element that holds a text
 abbrev pub text_element : List ℕ → List Attribute → List ℕ → Written
 text_element name attributes text = Element name attributes text Nothing Nothing
 
+-- one element that holds elements
 abbrev pub element : List ℕ → List Attribute → Written → Written
 element name attributes inside = Element name attributes [] inside Nothing
 
@@ -38,6 +41,7 @@ abbrev pub joined : Written → Written → Written
 joined Nothing after = after
 joined (Element name attributes text inside rest) after = Element name attributes text inside (joined rest after)
 
+-- all elements of a list, one after another
 abbrev pub all_of : List Written → Written
 all_of [] = Nothing
 all_of (w ∷ ws) = joined w (all_of ws)
@@ -71,6 +75,7 @@ written_text (Element name attributes text inside rest) = element_text name attr
 unfoldable pub page_text : Written → List ℕ
 page_text w = written_text w ++ codes "\n"
 
+-- what a body in XML begins with (XML 1.0, section 2.8)
 abbrev pub declaration : List ℕ
 declaration = codes "<?xml version=\"1.0\" encoding=\"utf-8\"?>\n"
 
@@ -80,6 +85,7 @@ body_text w = declaration ++ page_text w
 
 -- ---- trees that can be read again
 
+-- an attribute whose name is a name, and whose value has characters of XML alone
 abbrev pub is_plain_attribute : Attribute → Bool
 is_plain_attribute a = is_written_name a.name && xml_plain a.value
 

@@ -1,7 +1,7 @@
 ghost use Rattle.std.specs.Prelude.{◌≡◌, ◌++◌, ℕ, List, false, [], OnOk, IfOk, codes};
 ghost use Rattle.dsv_base.specs.Escapes.{xml_text};
 ghost use Rattle.dav_documents.specs.Written.{Written, attribute, binding, empty_element, text_element, written_text, page_text, body_text};
-ghost use Rattle.dav_documents.specs.Drafts.{nothing_written, declaration_written, front_written, settled, started, with_attribute, with_text, ended, with_elements};
+ghost use Rattle.dav_documents.specs.Drafts.{nothing_written, declaration_written, front_written, with_tag_closed, started, with_value, with_attribute, with_written_text, ended, with_elements};
 
 use dsv_base::{Bytes, NoMemory, push_xml_text};
 use std::alloc::Global;
@@ -101,7 +101,7 @@ impl Writer {
     /// The text of the element that was begun, escaped. An empty one changes nothing.
     #[tactic(auto, unfolding(crate::specs::Drafts::said))]
     pub fn text(&mut self, text: &[u8]) -> Result<(), NoMemory>
-        ensures { OnOk result (self.new ≡ with_text text.now self.old) }
+        ensures { OnOk result (self.new ≡ with_written_text text.now self.old) }
     {
         if text.is_empty() {
             return Ok(());
@@ -146,9 +146,11 @@ impl Writer {
 
     /// All that was written, and a line feed: the document, where the pieces were those of a tree.
     pub fn finish(self) -> Result<Bytes, NoMemory>
-        ensures text { IfOk result (λ bytes. bytes ≡ settled self ++ codes "\n") }
-        ensures page { (tree : Written) → self ≡ with_elements tree nothing_written → IfOk result (λ bytes. bytes ≡ page_text tree) }
-        ensures body { (tree : Written) → self ≡ with_elements tree declaration_written → IfOk result (λ bytes. bytes ≡ body_text tree) }
+        ensures text { IfOk result (λ bytes. bytes ≡ with_tag_closed self ++ codes "\n") }
+        ensures page { (tree : Written) → self ≡ with_elements tree nothing_written
+            → IfOk result (λ bytes. bytes ≡ page_text tree) }
+        ensures body { (tree : Written) → self ≡ with_elements tree declaration_written
+            → IfOk result (λ bytes. bytes ≡ body_text tree) }
     {
         let mut writer = self;
         writer.settle()?;
@@ -162,8 +164,9 @@ impl Writer {
 
     /// All that was written, and a text as it stands.
     pub fn finish_with(self, tail: &[u8]) -> Result<Bytes, NoMemory>
-        ensures text { IfOk result (λ bytes. bytes ≡ settled self ++ tail.now) }
-        ensures between { (tree : Written) (front : List ℕ) → self ≡ with_elements tree (front_written front) → IfOk result (λ bytes. bytes ≡ front ++ written_text tree ++ tail.now) }
+        ensures text { IfOk result (λ bytes. bytes ≡ with_tag_closed self ++ tail.now) }
+        ensures between { (tree : Written) (front : List ℕ) → self ≡ with_elements tree (front_written front)
+            → IfOk result (λ bytes. bytes ≡ front ++ written_text tree ++ tail.now) }
     {
         let mut writer = self;
         writer.settle()?;
@@ -176,9 +179,9 @@ impl Writer {
     }
 
     /// Gives the start tag its `>`.
-    #[tactic(auto, unfolding(crate::specs::Drafts::settled))]
+    #[tactic(auto, unfolding(crate::specs::Drafts::with_tag_closed))]
     fn settle(&mut self) -> Result<(), NoMemory>
-        ensures { OnOk result (self.new ≡ record { text = settled self.old; in_tag = false }) }
+        ensures { OnOk result (self.new ≡ record { text = with_tag_closed self.old; in_tag = false }) }
     {
         if self.in_tag {
             self.bytes.push(b'>')?;
@@ -189,7 +192,7 @@ impl Writer {
 
     /// An attribute's value, behind its name.
     fn push_value(&mut self, value: &[u8]) -> Result<(), NoMemory>
-        ensures { OnOk result (self.new ≡ record { text = self.old.text ++ codes "=\"" ++ xml_text value.now ++ codes "\""; in_tag = self.old.in_tag }) }
+        ensures { OnOk result (self.new ≡ with_value value.now self.old) }
     {
         self.bytes.extend_from_slice(b"=\"")?;
         push_xml_text(&mut self.bytes, value)?;

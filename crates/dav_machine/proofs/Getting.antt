@@ -4,9 +4,9 @@ use Rattle.std.specs.Option.{option_map}
 use Rattle.dsv_base.specs.Gives.{◌>>=◌}
 use Rattle.dav_names.specs.declared.resource.Resource.{Resource}
 use Rattle.dav_replies.specs.declared.refusal.Refusal.TheVariants.{NoNode}
-use Rattle.rev_trees.specs.declared.node.Node.{Node}
-use Rattle.rev_trees.specs.Trees.{TreeNode}
-use Rattle.rev_trees.specs.Forests.{Numbered, Forest, repository_of, id_at, node_at}
+use Rattle.rev_nodes.specs.declared.node.Node.{Node}
+use Rattle.rev_nodes.specs.Trees.{TreeNode}
+use Rattle.rev_nodes.specs.Forests.{Numbered, Forest, repository_of, id_at, node_at}
 use Rattle.authz_file.specs.declared.rule.Rule.{Rule}
 use Rattle.authz_check.specs.Access.{can_read}
 use Rattle.log_access.specs.Shown.{shown_node, shown_of}

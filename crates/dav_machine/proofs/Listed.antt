@@ -11,10 +11,10 @@ use Rattle.dsv_base.proofs.Joins.{join_parent}
 use Rattle.dav_documents.specs.Written.{Written, Nothing, for_each}
 use Rattle.dav_documents.specs.Drafts.{Draft, with_elements}
 use Rattle.dav_documents.proofs.Trees.{with_elements_joined}
-use Rattle.rev_trees.specs.declared.entry.Entry.{Entry}
-use Rattle.rev_trees.specs.Trees.{TreeNode, Tree}
-use Rattle.rev_trees.specs.Forests.{Numbered, Forest, repository_of, tree_of, places_at, place_at, id_at}
-use Rattle.rev_trees.specs.Entries.{is_child, entry_in, entries_in, IsSoundPlace, IsSound}
+use Rattle.rev_nodes.specs.declared.entry.Entry.{Entry}
+use Rattle.rev_nodes.specs.Trees.{TreeNode, Tree}
+use Rattle.rev_nodes.specs.Forests.{Numbered, Forest, repository_of, tree_of, places_at, place_at, id_at}
+use Rattle.rev_nodes.specs.Entries.{is_child, entry_in, entries_in, IsSoundPlace, IsSound}
 use Rattle.dav_machine.specs.Listings.{Child, children_in}
 use Rattle.dav_machine.specs.ShownEntries.{child_with, shown_entry, shown_entries, StandsIn}
 use Rattle.authz_file.specs.declared.rule.Rule.{Rule}

@@ -1,6 +1,6 @@
 -- A hub, as contracts see it.
 use Rattle.std.specs.Prelude.{ℕ, ◌≡◌, ◌⊎◌, ◌+◌, ◌≤◌, List, [], ◌∷◌}
-use Rattle.rev_trees.specs.Forests.{Forest, repository_of}
+use Rattle.rev_nodes.specs.Forests.{Forest, repository_of}
 use Rattle.authz_file.specs.declared.rule.Rule.{Rule}
 use Rattle.authz_check.specs.Policies.{PolicyState}
 use Rattle.dsv_outside.specs.Causes.{last_count}

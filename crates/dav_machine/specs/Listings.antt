@@ -2,10 +2,10 @@
 use Rattle.std.specs.Prelude.{ℕ, List, [], ◌∷◌, ◌++◌, Option, None, Some, codes, if◌then◌else◌}
 use Rattle.std.specs.List.{filter_map}
 use Rattle.dsv_base.specs.Paths.{name_of, join_text}
-use Rattle.rev_trees.specs.declared.kind.Kind.{Kind}
-use Rattle.rev_trees.specs.declared.kind.Kind.TheVariants.{File, Dir}
-use Rattle.rev_trees.specs.Entries.{is_child}
-use Rattle.rev_trees.specs.Trees.{TreeNode, Tree}
+use Rattle.rev_nodes.specs.declared.kind.Kind.{Kind}
+use Rattle.rev_nodes.specs.declared.kind.Kind.TheVariants.{File, Dir}
+use Rattle.rev_nodes.specs.Entries.{is_child}
+use Rattle.rev_nodes.specs.Trees.{TreeNode, Tree}
 use Rattle.dav_names.specs.declared.resource.Resource.{Resource}
 use Rattle.dav_names.specs.declared.resource.Resource.TheVariants.{Public, Rvr}
 use Rattle.dav_names.specs.Written.{target_text}

@@ -1,6 +1,6 @@
 -- The present state, as the program keeps it.
 use Rattle.std.specs.Prelude.{ℕ, ◌≡◌, List}
-use Rattle.rev_trees.specs.Forests.{Forest, repository_of}
+use Rattle.rev_nodes.specs.Forests.{Forest, repository_of}
 use Rattle.authz_check.specs.Policies.{PolicyState}
 use Rattle.authz_file.specs.declared.rule.Rule.{Rule}
 use Rattle.dav_names.specs.Targets.{root_of}

@@ -3,10 +3,10 @@
 use Rattle.std.specs.Prelude.{ℕ, List, [], ◌∷◌, Option, None, Some, Result, Ok, Err, nat_le, if◌then◌else◌}
 use Rattle.dsv_base.specs.Gives.{◌>>=◌}
 use Rattle.dsv_base.specs.declared.reply.Reply.{Reply}
-use Rattle.rev_trees.specs.declared.kind.Kind.{Kind}
-use Rattle.rev_trees.specs.declared.kind.Kind.TheVariants.{File, Dir}
-use Rattle.rev_trees.specs.declared.node.Node.{Node}
-use Rattle.rev_trees.specs.Trees.{TreeNode}
+use Rattle.rev_nodes.specs.declared.kind.Kind.{Kind}
+use Rattle.rev_nodes.specs.declared.kind.Kind.TheVariants.{File, Dir}
+use Rattle.rev_nodes.specs.declared.node.Node.{Node}
+use Rattle.rev_nodes.specs.Trees.{TreeNode}
 use Rattle.dav_names.specs.declared.resource.Resource.{Resource}
 use Rattle.dav_names.specs.Targets.{root_of}
 use Rattle.dav_replies.specs.declared.refusal.Refusal.{Refusal}

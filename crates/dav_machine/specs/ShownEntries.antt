@@ -3,8 +3,8 @@ use Rattle.std.specs.Prelude.{ℕ, ◌≡◌, Bool, IsTrue, List, Option, None, 
 use Rattle.std.specs.Option.{option_map}
 use Rattle.std.specs.List.{filter_map}
 use Rattle.dsv_base.specs.Paths.{is_path, join_text}
-use Rattle.rev_trees.specs.declared.entry.Entry.{Entry}
-use Rattle.rev_trees.specs.Forests.{Numbered, Forest, place_at, id_at}
+use Rattle.rev_nodes.specs.declared.entry.Entry.{Entry}
+use Rattle.rev_nodes.specs.Forests.{Numbered, Forest, place_at, id_at}
 use Rattle.dav_machine.specs.Listings.{Child}
 
 -- an entry of a directory as a child, by what stands at its path

@@ -1,6 +1,6 @@
 -- The state of the repository machine.
 use Rattle.std.specs.Prelude.{ℕ, ◌-◌, List, length}
-use Rattle.rev_trees.specs.Trees.{Repository}
+use Rattle.rev_nodes.specs.Trees.{Repository}
 use Rattle.authz_file.specs.declared.rule.Rule.{Rule}
 
 -- the repository and the rules; as yet there are no transactions and no locks

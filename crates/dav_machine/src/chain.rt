@@ -2,7 +2,7 @@ ghost use Rattle.std.specs.Prelude.{◌≡◌, IfOk, Some};
 ghost use Rattle.std.specs.Option.{option_copied};
 ghost use Rattle.dsv_base.specs.Gives.{Gives, GivesBy};
 ghost use Rattle.dav_names.specs.Targets.{target};
-ghost use Rattle.dav_replies.specs.Faults.{is_no_memory};
+ghost use Rattle.dav_replies.specs.Faults.{refusal_no_memory};
 ghost use Rattle.dav_machine.specs.Chains.{or_bad_target, kind_of, by_method, asked_by, viewer, by_login, aim_of, by_rule, denied, IsReadable, permit_of, permitted, is_head_method, is_head};
 
 use crate::aim::aim_of;
@@ -32,7 +32,7 @@ pub fn permitted<'a>(
     request: &'a Request,
 ) -> Result<Permit<'a>, Refusal>
     ensures value {
-        GivesBy (λ p. permit_of p.resource p.asked) is_no_memory result
+        GivesBy (λ p. permit_of p.resource p.asked) refusal_no_memory result
         (permitted present.now.trees.name present.now.rules request.now)
     }
     ensures user { IfOk result (λ p. option_copied p.user ≡ viewer request.now.login) }
@@ -55,7 +55,7 @@ pub fn permitted<'a>(
 
 /// The resource that a target names.
 fn by_target(alloc: Global, root: &[u8], text: &[u8]) -> Result<Resource, Refusal>
-    ensures { Gives is_no_memory result (or_bad_target (target root.now text.now)) }
+    ensures { Gives refusal_no_memory result (or_bad_target (target root.now text.now)) }
 {
     match read_target(alloc, root, text) {
         Ok(resource) => Ok(resource),
@@ -81,7 +81,7 @@ fn kind_of(resource: &Resource) -> AllowKind
 
 /// The method of this name, which the resource has to take.
 fn by_method(kind: AllowKind, name: &[u8]) -> Result<Method, Refusal>
-    ensures { Gives is_no_memory result (by_method kind name.now) }
+    ensures { Gives refusal_no_memory result (by_method kind name.now) }
 {
     match Method::read(name) {
         None => Err(Refusal::WrongMethod { allow: kind }),
@@ -97,7 +97,7 @@ fn by_method(kind: AllowKind, name: &[u8]) -> Result<Method, Refusal>
 
 /// What is asked for by the method. What isn't built yet is refused by name.
 fn asked_by(method: Method) -> Result<Asked, Refusal>
-    ensures { Gives is_no_memory result (asked_by method) }
+    ensures { Gives refusal_no_memory result (asked_by method) }
 {
     match method {
         Method::Options => Ok(Asked::Options),
@@ -119,7 +119,7 @@ fn asked_by(method: Method) -> Result<Asked, Refusal>
 
 /// The name of the user, if somebody is logged in. A wrong login is refused before anything is looked at.
 fn by_login(login: &Login) -> Result<Option<&[u8]>, Refusal>
-    ensures value { GivesBy option_copied is_no_memory result (by_login login.now) }
+    ensures value { GivesBy option_copied refusal_no_memory result (by_login login.now) }
     ensures user { IfOk result (λ user. option_copied user ≡ viewer login.now) }
 {
     match login {
@@ -137,7 +137,7 @@ fn by_rule<'a>(
     path: Option<&'a Path>,
 ) -> Result<Option<&'a Path>, Refusal>
     ensures value {
-        GivesBy option_copied is_no_memory result
+        GivesBy option_copied refusal_no_memory result
         (by_rule present.now.rules present.now.trees.name (option_copied user.entry) (option_copied path.entry))
     }
     ensures readable {

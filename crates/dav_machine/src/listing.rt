@@ -3,7 +3,7 @@ ghost use Rattle.std.specs.List.{All};
 ghost use Rattle.std.specs.Option.{option_copied};
 ghost use Rattle.dsv_base.specs.Paths.{is_path, join_text};
 ghost use Rattle.authz_check.specs.Access.{can_read};
-ghost use Rattle.rev_trees.specs.Forests.{repository_of, id_at};
+ghost use Rattle.rev_nodes.specs.Forests.{repository_of, id_at};
 ghost use Rattle.dav_documents.specs.Drafts.{with_elements};
 ghost use Rattle.dav_documents.specs.Written.{for_each};
 ghost use Rattle.dav_names.specs.Targets.{root_of};
@@ -17,7 +17,7 @@ use crate::present::Present;
 use dav_documents::Writer;
 use dav_names::{Resource, write_target};
 use dsv_base::{Bytes, NoMemory, Path, PathFault};
-use rev_trees::{Entry, Kind, NodeId};
+use rev_nodes::{Entry, Kind, NodeId};
 use std::alloc::Global;
 
 /// The listing of the directory at the path, whose number this is: a page with a link for each child

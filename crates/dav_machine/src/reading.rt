@@ -2,9 +2,9 @@ ghost use Rattle.std.specs.Prelude.{◌≡◌, ◌-◌, ◌<◌, IfOk, true, Ok,
 ghost use Rattle.std.specs.Option.{option_copied};
 ghost use Rattle.dsv_base.specs.Gives.{Gives};
 ghost use Rattle.authz_check.specs.Access.{can_read};
-ghost use Rattle.rev_trees.specs.Forests.{repository_of, id_at};
+ghost use Rattle.rev_nodes.specs.Forests.{repository_of, id_at};
 ghost use Rattle.dav_names.specs.Targets.{root_of};
-ghost use Rattle.dav_replies.specs.Faults.{is_no_memory};
+ghost use Rattle.dav_replies.specs.Faults.{refusal_no_memory};
 ghost use Rattle.dav_replies.specs.Replies.{IsWritable};
 ghost use Rattle.log_access.specs.Shown.{shown_of};
 ghost use Rattle.dav_machine.specs.Chains.{IsReadable, aim_of, permit_of};
@@ -23,7 +23,8 @@ use crate::replies::{content_reply, options_reply};
 use dav_names::Resource;
 use dav_replies::Refusal;
 use dsv_base::{Path, Reply, Rev};
-use rev_trees::{Kind, NodeId, Trees};
+use rev_nodes::{Kind, NodeId};
+use rev_trees::Trees;
 use std::alloc::Global;
 
 /// What is answered to a reading request that was let through: the revisions that are named, then the
@@ -40,7 +41,7 @@ pub fn read_answer(
         IsReadable present.now.rules present.now.trees.name (option_copied user) (aim_of asked resource.now).path
     }
     ensures value {
-        Gives is_no_memory result
+        Gives refusal_no_memory result
         (read_answer (view_of (state_of present.now) (option_copied user.entry)) (permit_of resource.now asked))
     }
     ensures writable { IfOk result IsWritable }
@@ -53,7 +54,7 @@ pub fn read_answer(
 /// The revision that is meant: the one that is named, which has to be there, or the youngest.
 fn by_revisions(trees: &Trees, named: Option<Rev>) -> Result<Rev, Refusal>
     ensures value {
-        Gives is_no_memory result (by_revisions (length trees.now.revisions - 1) (option_to_list named))
+        Gives refusal_no_memory result (by_revisions (length trees.now.revisions - 1) (option_to_list named))
     }
     ensures there { IfOk result (λ rev. rev < length trees.now.revisions) }
 {
@@ -84,7 +85,7 @@ fn asked_reply(
     }
     requires there { rev < length present.now.trees.revisions }
     ensures value {
-        Gives is_no_memory result
+        Gives refusal_no_memory result
         (asked_reply (view_of (state_of present.now) (option_copied user.entry)) asked resource.now rev (option_copied path.entry))
     }
     ensures writable { IfOk result IsWritable }
@@ -99,7 +100,7 @@ fn asked_reply(
 /// What the server can do, and where its resources are.
 fn what_the_server_can(alloc: Global, present: &Present) -> Result<Reply, Refusal>
     ensures value {
-        Gives is_no_memory result
+        Gives refusal_no_memory result
         (Ok (options_reply (root_of present.now.trees.name) present.now.trees.uuid (length present.now.trees.revisions - 1)))
     }
     ensures writable { IfOk result IsWritable }
@@ -127,7 +128,7 @@ fn content_at(
     }
     requires there { rev < length present.now.trees.revisions }
     ensures value {
-        Gives is_no_memory result
+        Gives refusal_no_memory result
         (content_at (shown_of (repository_of present.now.trees) present.now.rules (option_copied user.entry)) resource.now rev (option_copied path.entry))
     }
     ensures writable { IfOk result IsWritable }
@@ -153,7 +154,7 @@ fn get_reply(
     }
     requires there { at.now.rev < length present.now.trees.revisions }
     ensures value {
-        Gives is_no_memory result
+        Gives refusal_no_memory result
         (get_reply (shown_of (repository_of present.now.trees) present.now.rules (option_copied user.entry)) at.now.resource.now at.now.rev at.now.path.now)
     }
     ensures writable { IfOk result IsWritable }
@@ -178,7 +179,7 @@ fn node_reply(
     }
     requires number { id_at present.now.trees at.now.rev at.now.path.now ≡ Some id }
     ensures value {
-        Gives is_no_memory result
+        Gives refusal_no_memory result
         (get_reply (shown_of (repository_of present.now.trees) present.now.rules (option_copied user.entry)) at.now.resource.now at.now.rev at.now.path.now)
     }
     ensures writable { IfOk result IsWritable }

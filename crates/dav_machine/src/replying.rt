@@ -1,6 +1,6 @@
 ghost use Rattle.std.specs.Prelude.{◌≡◌, ℕ, Bool, IfOk, None};
 ghost use Rattle.dsv_base.specs.Gives.{GivesBy};
-ghost use Rattle.dav_replies.specs.Faults.{is_no_memory};
+ghost use Rattle.dav_replies.specs.Faults.{refusal_no_memory};
 ghost use Rattle.dav_replies.specs.Replies.{IsWritable};
 ghost use Rattle.dav_machine.specs.AllReplies.{answered, reply_to};
 ghost use Rattle.dav_machine.specs.Presents.{state_of};
@@ -38,7 +38,7 @@ pub fn reply_to(alloc: Global, present: &Present, request: &Request) -> Result<R
 fn answered(alloc: Global, present: &Present, request: &Request) -> Result<Reply, Refusal>
     ensures value {
         (moment : ℕ) (kept : Bool)
-        → GivesBy (λ reply. (reply, None)) is_no_memory result (answered (state_of present.now) request.now moment kept)
+        → GivesBy (λ reply. (reply, None)) refusal_no_memory result (answered (state_of present.now) request.now moment kept)
     }
     ensures writable { IfOk result IsWritable }
 {

@@ -13,7 +13,7 @@ use Rattle.percent_encoding.proofs.PercentLemmas.{IsByte, percent_decode_not_per
 use Rattle.dsv_base.specs.Escapes.{is_url_byte, hex_digit, percent_escape, url_escape, url_text}
 use Rattle.dsv_base.specs.Paths.{is_slash}
 use Rattle.dsv_base.proofs.Escaping.{percent_decode-url_text}
-use Rattle.dav_names.specs.Escaped.{begins_with_digits, is_escaped, unescaped}
+use Rattle.dav_names.specs.Escaped.{begins_escape_but_slash, is_escaped, unescaped}
 use Rattle.dav_names.specs.Targets.{is_mark}
 
 abbrev pub is_percent : ℕ → Bool
@@ -24,7 +24,7 @@ is_escaped-plain : (xs ys : List ℕ) → list_any is_percent xs ≡ false → i
 is_escaped-plain [] ys none = refl
 is_escaped-plain (x ∷ xs) ys none =
     let parts = or_parts (is_percent x) (list_any is_percent xs) none in
-    ap (λ b. (not b || begins_with_digits (xs ++ ys)) && is_escaped (xs ++ ys)) parts.0 ∙ is_escaped-plain xs ys parts.1
+    ap (λ b. (not b || begins_escape_but_slash (xs ++ ys)) && is_escaped (xs ++ ys)) parts.0 ∙ is_escaped-plain xs ys parts.1
 
 percent_decode-plain : (xs ys : List ℕ) → list_any is_percent xs ≡ false → percent_decode (xs ++ ys) ≡ xs ++ percent_decode ys
 percent_decode-plain [] ys none = refl
@@ -43,13 +43,13 @@ escape_begins : (b : ℕ) (rest : List ℕ) → b < 256 → is_url_byte b ≡ fa
 escape_begins b rest small other =
     let high = hex (b / 16 % 16) (omega arith) in
     let low = hex (b % 16) (omega arith) in
-    let digits : begins_with_digits (hex_digit (b / 16 % 16) ∷ hex_digit (b % 16) ∷ rest) ≡ true = and_from _ _ (and_from _ _ high.0 low.0) (not_slash b small other) in
-    ap (λ x. x && ((not (hex_digit (b / 16 % 16) == 37) || begins_with_digits (hex_digit (b % 16) ∷ rest)) && ((not (hex_digit (b % 16) == 37) || begins_with_digits rest) && is_escaped rest))) digits
-    ∙ ap (λ x. (not x || begins_with_digits (hex_digit (b % 16) ∷ rest)) && ((not (hex_digit (b % 16) == 37) || begins_with_digits rest) && is_escaped rest)) high.1
-    ∙ ap (λ x. (not x || begins_with_digits rest) && is_escaped rest) low.1
+    let digits : begins_escape_but_slash (hex_digit (b / 16 % 16) ∷ hex_digit (b % 16) ∷ rest) ≡ true = and_from _ _ (and_from _ _ high.0 low.0) (not_slash b small other) in
+    ap (λ x. x && ((not (hex_digit (b / 16 % 16) == 37) || begins_escape_but_slash (hex_digit (b % 16) ∷ rest)) && ((not (hex_digit (b % 16) == 37) || begins_escape_but_slash rest) && is_escaped rest))) digits
+    ∙ ap (λ x. (not x || begins_escape_but_slash (hex_digit (b % 16) ∷ rest)) && ((not (hex_digit (b % 16) == 37) || begins_escape_but_slash rest) && is_escaped rest)) high.1
+    ∙ ap (λ x. (not x || begins_escape_but_slash rest) && is_escaped rest) low.1
 
 stays : (b : ℕ) (rest : List ℕ) → is_url_byte b ≡ true → is_escaped (b ∷ rest) ≡ is_escaped rest
-stays b rest one = let other : (b == 37) ≡ false = grind (arith, nat_tests) in ap (λ x. (not x || begins_with_digits rest) && is_escaped rest) other
+stays b rest one = let other : (b == 37) ≡ false = grind (arith, nat_tests) in ap (λ x. (not x || begins_escape_but_slash rest) && is_escaped rest) other
 
 is_escaped-url : (p : List ℕ) → All IsByte p → is_escaped (url_text p) ≡ true
 unfolding url_text

@@ -1,5 +1,4 @@
 pub mod Components
-pub mod Decimals
 pub mod Ends
 pub mod Escapes
 pub mod Roots

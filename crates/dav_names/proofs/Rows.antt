@@ -4,7 +4,7 @@ use Rattle.std.specs.Str.{is_utf8, chars}
 use Rattle.std.proofs.Math.Utf8.{encode}
 use Rattle.percent_encoding.specs.Percent.{percent_decode}
 use Rattle.dsv_base.specs.Escapes.{url_text}
-use Rattle.dsv_base.specs.Numbers.{decimal}
+use Rattle.dsv_base.specs.Numbers.{read_decimal}
 use Rattle.dsv_base.specs.Paths.{is_path}
 use Rattle.dsv_base.specs.declared.txn_name.TxnName.{TxnName}
 use Rattle.std.specs.Fmt.{digits}
@@ -26,7 +26,7 @@ read : (target demo (codes "/svn/demo/a%20b/") ≡ Some (Public (codes "/a b")))
     × (target demo (codes "/svn/demo/!svn/rev/2000000000") ≡ Some (RevOnly 2000000000))
     × (target demo (codes "/svn/demo/!svn/txr/3-1") ≡ Some (Txr three_one (codes "/")))
     × (target demo (codes "/svn/demo/!svn/txn/3-1") ≡ Some (Txn three_one))
-unfolding target target_path without_slash unescaped percent_decode named path_of is_path decimal txn_named is_utf8 chars encode
+unfolding target target_path without_slash unescaped percent_decode named path_of is_path read_decimal txn_named is_utf8 chars encode
 read = (refl, refl, refl, refl, refl, refl, refl)
 
 unread : (target demo (codes "/svn/demoX") ≡ None)
@@ -36,7 +36,7 @@ unread : (target demo (codes "/svn/demoX") ≡ None)
     × (target demo (codes "/svn/demo/%2") ≡ None)
     × (target demo (codes "/svn/demo/!svn/rvr/05") ≡ None)
     × (target demo (codes "/svn/demo/!svn/txn/3-0") ≡ None)
-unfolding target target_path without_slash unescaped percent_decode named path_of is_path decimal txn_named is_utf8 chars encode
+unfolding target target_path without_slash unescaped percent_decode named path_of is_path read_decimal txn_named is_utf8 chars encode
 unread = (refl, refl, refl, refl, refl, refl, refl)
 
 written : (target_text demo (Public (codes "/")) ≡ demo)

@@ -2,7 +2,7 @@
 use Rattle.std.proofs.Common.{◌≡◌, ℕ, ◌≤◌, Bool, true, false, not, List, [], ◌∷◌, ◌++◌, None, Some, length, nat_eq, codes, refl, ap, sym, ◌∙◌, arith, append-nil, append_assoc}
 use Rattle.std.specs.Prelude.{◌==◌, if◌then◌else◌}
 use Rattle.std.specs.List.{list_all, list_any}
-use Rattle.std.specs.Fmt.{decimal as written}
+use Rattle.std.specs.Fmt.{decimal}
 use Rattle.std.specs.Option.{option_map, option_and_then}
 use Rattle.std.specs.Str.{bytes_eq}
 use Rattle.std.proofs.lemmas.Bool.{and_parts, or_from, or_parts, both_ways, eqb-true, eq-eqb, not-true}
@@ -10,7 +10,7 @@ use Rattle.std.proofs.lemmas.Bool.Decides.{nat_tests}
 use Rattle.std.proofs.lemmas.Slice.Eq.{bytes_eq-Decides}
 use Rattle.std.proofs.lemmas.List.Folds.{list_any-append}
 use Rattle.dsv_base.specs.Lines.{cut_at}
-use Rattle.dsv_base.specs.Numbers.{decimal, is_digit}
+use Rattle.dsv_base.specs.Numbers.{read_decimal, is_digit}
 use Rattle.dsv_base.specs.Paths.{components, front_of, is_component, is_path, is_slash, root_text}
 use Rattle.dsv_base.specs.declared.txn_name.TxnName.{TxnName}
 use Rattle.dsv_base.proofs.Joins.{components-append, components-one}
@@ -18,7 +18,7 @@ use Rattle.dav_names.specs.declared.resource.Resource.TheVariants.{Public, Me, R
 use Rattle.dav_names.specs.Targets.{named, path_of, rev_named, resource_at, special_at, rvr_at, rev_at, txr_at, txn_at, txn_named, txn_of, txn_parts}
 use Rattle.dav_names.specs.Written.{txn_text, IsName}
 use Rattle.dav_names.proofs.Components.{first_of_parts, components_from_path, path_of-some}
-use Rattle.dav_names.proofs.Decimals.{not_in_written, read_written}
+use Rattle.dsv_base.proofs.Decimals.{not_in_written, read_back}
 
 root_only : (p : List ℕ) → bytes_eq p root_text ≡ true → p ≡ root_text
 root_only p h = (bytes_eq-Decides p root_text).0 h
@@ -76,8 +76,8 @@ not_special part one = grind (arith, nat_tests)
 
 -- ---- revisions and transactions
 
-pub rev_written : (rev : ℕ) → rev ≤ 2000000000 → rev_named (written rev) ≡ Some rev
-rev_written rev few = read_written 2000000000 rev few (omega arith)
+pub rev_written : (rev : ℕ) → rev ≤ 2000000000 → rev_named (decimal rev) ≡ Some rev
+rev_written rev few = read_back 2000000000 rev few (omega arith)
 
 digit_no_slash : (b : ℕ) → is_digit b ≡ true → is_slash b ≡ false
 digit_no_slash b h = grind (arith, nat_tests)
@@ -95,17 +95,17 @@ cut_behind byte (x ∷ xs) ys none =
 
 pub name_slash : (name : TxnName) → IsName name → list_any is_slash (txn_text name) ≡ false
 name_slash name in_range =
-    list_any-append is_slash (written name.base ++ codes "-") (written name.number)
-    ∙ or_from _ _ (list_any-append is_slash (written name.base) (codes "-") ∙ or_from _ _ (not_in_written is_slash digit_no_slash name.base (omega (arith, in_range.0))) refl) (not_in_written is_slash digit_no_slash name.number (omega (arith, in_range.1)))
+    list_any-append is_slash (decimal name.base ++ codes "-") (decimal name.number)
+    ∙ or_from _ _ (list_any-append is_slash (decimal name.base) (codes "-") ∙ or_from _ _ (not_in_written is_slash digit_no_slash name.base (omega (arith, in_range.0))) refl) (not_in_written is_slash digit_no_slash name.number (omega (arith, in_range.1)))
 
 pub name_written : (name : TxnName) → IsName name → not (name.number == 0) ≡ true → txn_named (txn_text name) ≡ Some name
 unfolding txn_named
 name_written name in_range some =
     let base = rev_written name.base in_range.0 in
-    let number : decimal 4294967295 (written name.number) ≡ Some name.number = read_written 4294967295 name.number (omega (arith, in_range.1)) (omega (arith, in_range.1)) in
-    let cut : cut_at 45 (txn_text name) ≡ Some (written name.base, written name.number) = ap (cut_at 45) (append_assoc (written name.base) (codes "-") (written name.number)) ∙ cut_behind 45 (written name.base) (written name.number) (not_in_written (λ b. b == 45) digit_no_dash name.base (omega (arith, in_range.0))) in
+    let number : read_decimal 4294967295 (decimal name.number) ≡ Some name.number = read_back 4294967295 name.number (omega (arith, in_range.1)) (omega (arith, in_range.1)) in
+    let cut : cut_at 45 (txn_text name) ≡ Some (decimal name.base, decimal name.number) = ap (cut_at 45) (append_assoc (decimal name.base) (codes "-") (decimal name.number)) ∙ cut_behind 45 (decimal name.base) (decimal name.number) (not_in_written (λ b. b == 45) digit_no_dash name.base (omega (arith, in_range.0))) in
     ap (option_and_then (λ (cut : List ℕ × List ℕ). txn_parts cut.0 cut.1)) cut
-    ∙ ap (option_and_then (λ base. option_and_then (txn_of base) (decimal 4294967295 (written name.number)))) base
+    ∙ ap (option_and_then (λ base. option_and_then (txn_of base) (read_decimal 4294967295 (decimal name.number)))) base
     ∙ ap (option_and_then (txn_of name.base)) number
     ∙ ap (λ b. if b then None else Some name) (not-true (name.number == 0) some)
 
@@ -133,15 +133,15 @@ pub me_named : named (codes "/!svn/me") ≡ Some Me
 unfolding named
 me_named = refl
 
-pub rvr_named : (rev : ℕ) (p : List ℕ) → rev ≤ 2000000000 → is_path p ≡ true → named (codes "/!svn/rvr/" ++ (written rev ++ front_of p)) ≡ Some (Rvr rev p)
+pub rvr_named : (rev : ℕ) (p : List ℕ) → rev ≤ 2000000000 → is_path p ≡ true → named (codes "/!svn/rvr/" ++ (decimal rev ++ front_of p)) ≡ Some (Rvr rev p)
 unfolding named
 rvr_named rev p few path =
-    let rest = behind (written rev) p (not_in_written is_slash digit_no_slash rev (omega (arith, few))) path in
+    let rest = behind (decimal rev) p (not_in_written is_slash digit_no_slash rev (omega (arith, few))) path in
     ap rvr_at rest.are ∙ ap (option_and_then (λ rev. option_map (Rvr rev) (path_of rest.parts))) (rev_written rev few) ∙ ap (option_map (Rvr rev)) rest.path
 
-pub rev_named_alone : (rev : ℕ) → rev ≤ 2000000000 → named (codes "/!svn/rev/" ++ written rev) ≡ Some (RevOnly rev)
+pub rev_named_alone : (rev : ℕ) → rev ≤ 2000000000 → named (codes "/!svn/rev/" ++ decimal rev) ≡ Some (RevOnly rev)
 unfolding named
-rev_named_alone rev few = ap rev_at (components-one (written rev) (not_in_written is_slash digit_no_slash rev (omega (arith, few)))) ∙ ap (option_map RevOnly) (rev_written rev few)
+rev_named_alone rev few = ap rev_at (components-one (decimal rev) (not_in_written is_slash digit_no_slash rev (omega (arith, few)))) ∙ ap (option_map RevOnly) (rev_written rev few)
 
 pub txr_named : (name : TxnName) (p : List ℕ) → IsName name → not (name.number == 0) ≡ true → is_path p ≡ true → named (codes "/!svn/txr/" ++ (txn_text name ++ front_of p)) ≡ Some (Txr name p)
 unfolding named

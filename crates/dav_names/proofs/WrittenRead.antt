@@ -2,7 +2,7 @@
 use Rattle.std.proofs.Common.{◌≡◌, ℕ, ◌<◌, ◌≤◌, ◌^◌, Bool, true, false, List, [], ◌++◌, Some, length, codes, refl, ap, sym, ◌∙◌, arith, append-nil, append_assoc, length-append}
 use Rattle.std.specs.Prelude.{if◌then◌else◌}
 use Rattle.std.specs.List.{All, list_any}
-use Rattle.std.specs.Fmt.{decimal as written}
+use Rattle.std.specs.Fmt.{decimal}
 use Rattle.std.specs.Option.{option_and_then}
 use Rattle.std.specs.Str.{bytes_eq}
 use Rattle.std.proofs.lemmas.Bool.{or_from}
@@ -20,7 +20,7 @@ use Rattle.dav_names.specs.declared.resource.Resource.TheVariants.{Public, Me, R
 use Rattle.dav_names.specs.Escaped.{unescaped}
 use Rattle.dav_names.specs.Targets.{is_mark, named, rest_named, target, without_slash}
 use Rattle.dav_names.specs.Written.{IsInRange, IsName, is_numbered, is_root, path_end, resource_text, target_text, txn_text}
-use Rattle.dav_names.proofs.Decimals.{not_in_written}
+use Rattle.dsv_base.proofs.Decimals.{not_in_written}
 use Rattle.dav_names.proofs.Ends.{keeps_end, keeps_path}
 use Rattle.dav_names.proofs.Escapes.{is_percent, marks_in_url, unescaped-url}
 use Rattle.dav_names.proofs.Roots.{named_behind}
@@ -65,12 +65,12 @@ both p xs ys front back = list_any-append p xs ys ∙ or_from _ _ front back
 
 not_in_name : (p : ℕ → Bool) → ((b : ℕ) → is_digit b ≡ true → p b ≡ false) → p 45 ≡ false → (name : TxnName) → IsName name → list_any p (txn_text name) ≡ false
 not_in_name p none dash name in_range =
-    both p (written name.base ++ codes "-") (written name.number)
-    (both p (written name.base) (codes "-") (not_in_written p none name.base (omega (arith, in_range.0))) (or_from (p 45) false dash refl))
+    both p (decimal name.base ++ codes "-") (decimal name.number)
+    (both p (decimal name.base) (codes "-") (not_in_written p none name.base (omega (arith, in_range.0))) (or_from (p 45) false dash refl))
     (not_in_written p none name.number (omega (arith, in_range.1)))
 
 name_some : (name : TxnName) → 1 ≤ length (txn_text name)
-name_some name = omega (arith, length-append (written name.base ++ codes "-") (written name.number), length-append (written name.base) (codes "-"))
+name_some name = omega (arith, length-append (decimal name.base ++ codes "-") (decimal name.number), length-append (decimal name.base) (codes "-"))
 
 -- what is written behind the root is read back
 pub rest_read : (r : Resource) → IsInRange r → is_numbered r ≡ true → rest_named (resource_text r) ≡ Some r
@@ -80,14 +80,14 @@ rest_read Me in_range some = read_alone (codes "/!svn/me") Me refl refl me_named
 rest_read (Rvr rev path) in_range some =
     let stub = codes "/!svn/rvr/" in
     let small : rev < 2 ^ 64 = omega (arith, in_range.0) in
-    read_path (stub ++ written rev) path (Rvr rev path) (both is_percent stub (written rev) refl (not_in_written is_percent digit_no_percent rev small))
-    (keeps_end stub (written rev) (decimal_nonempty rev small) (not_in_written is_slash digit_no_slash rev small)) in_range.1.0 in_range.1.1
-    (ap named (append_assoc stub (written rev) (front_of path)) ∙ rvr_named rev path in_range.0 in_range.1.0)
+    read_path (stub ++ decimal rev) path (Rvr rev path) (both is_percent stub (decimal rev) refl (not_in_written is_percent digit_no_percent rev small))
+    (keeps_end stub (decimal rev) (decimal_nonempty rev small) (not_in_written is_slash digit_no_slash rev small)) in_range.1.0 in_range.1.1
+    (ap named (append_assoc stub (decimal rev) (front_of path)) ∙ rvr_named rev path in_range.0 in_range.1.0)
 rest_read (RevOnly rev) in_range some =
     let stub = codes "/!svn/rev/" in
     let small : rev < 2 ^ 64 = omega (arith, in_range) in
-    read_alone (stub ++ written rev) (RevOnly rev) (both is_percent stub (written rev) refl (not_in_written is_percent digit_no_percent rev small))
-    (keeps_end stub (written rev) (decimal_nonempty rev small) (not_in_written is_slash digit_no_slash rev small))
+    read_alone (stub ++ decimal rev) (RevOnly rev) (both is_percent stub (decimal rev) refl (not_in_written is_percent digit_no_percent rev small))
+    (keeps_end stub (decimal rev) (decimal_nonempty rev small) (not_in_written is_slash digit_no_slash rev small))
     (rev_named_alone rev in_range)
 rest_read (Txr name path) in_range some =
     let stub = codes "/!svn/txr/" in
@@ -106,8 +106,8 @@ unmarked (Public path) in_range = marks_in_url (front_of path)
 unmarked Me in_range = refl
 unmarked (Rvr rev path) in_range =
     let stub = codes "/!svn/rvr/" in
-    both is_mark (stub ++ written rev) (path_end path) (both is_mark stub (written rev) refl (not_in_written is_mark digit_no_mark rev (omega (arith, in_range.0)))) (marks_in_url (front_of path))
-unmarked (RevOnly rev) in_range = both is_mark (codes "/!svn/rev/") (written rev) refl (not_in_written is_mark digit_no_mark rev (omega (arith, in_range)))
+    both is_mark (stub ++ decimal rev) (path_end path) (both is_mark stub (decimal rev) refl (not_in_written is_mark digit_no_mark rev (omega (arith, in_range.0)))) (marks_in_url (front_of path))
+unmarked (RevOnly rev) in_range = both is_mark (codes "/!svn/rev/") (decimal rev) refl (not_in_written is_mark digit_no_mark rev (omega (arith, in_range)))
 unmarked (Txr name path) in_range =
     let stub = codes "/!svn/txr/" in
     both is_mark (stub ++ txn_text name) (path_end path) (both is_mark stub (txn_text name) refl (not_in_name is_mark digit_no_mark refl name in_range.0)) (marks_in_url (front_of path))

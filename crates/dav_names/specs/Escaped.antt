@@ -3,16 +3,16 @@ use Rattle.std.specs.Prelude.{ℕ, Bool, true, false, not, ◌&&◌, ◌||◌, L
 use Rattle.std.specs.Char.{is_ascii_hexdigit}
 use Rattle.percent_encoding.specs.Percent.{percent_decode}
 
--- two hexadecimal digits stand at the front, and they aren't those of `/`, which are `2F` in any case
-abbrev pub begins_with_digits : List ℕ → Bool
-begins_with_digits [] = false
-begins_with_digits (high ∷ []) = false
-begins_with_digits (high ∷ low ∷ rest) = is_ascii_hexdigit high && is_ascii_hexdigit low && not (high == 50 && (low == 70 || low == 102))
+-- what stands behind a `%` begins with two hexadecimal digits, and they aren't those of `/`, which are `2F` in any case
+abbrev pub begins_escape_but_slash : List ℕ → Bool
+begins_escape_but_slash [] = false
+begins_escape_but_slash (high ∷ []) = false
+begins_escape_but_slash (high ∷ low ∷ rest) = is_ascii_hexdigit high && is_ascii_hexdigit low && not (high == 50 && (low == 70 || low == 102))
 
 -- each `%` begins an escape of another byte than `/`
 abbrev pub is_escaped : List ℕ → Bool
 is_escaped [] = true
-is_escaped (b ∷ bs) = (not (b == 37) || begins_with_digits bs) && is_escaped bs
+is_escaped (b ∷ bs) = (not (b == 37) || begins_escape_but_slash bs) && is_escaped bs
 
 -- the text with each escape replaced by its byte
 unfoldable pub unescaped : List ℕ → Option (List ℕ)

@@ -7,9 +7,10 @@ use Rattle.dav_names.specs.declared.target_fault.TargetFault.{TargetFault}
 use Rattle.dav_names.specs.declared.target_fault.TargetFault.TheVariants.{BadTarget, NoMemory}
 use Rattle.dav_names.specs.Targets.{target}
 
-abbrev pub is_no_memory : TargetFault → Bool
-is_no_memory BadTarget = false
-is_no_memory NoMemory = true
+-- the fault that is free: want of memory
+abbrev pub target_no_memory : TargetFault → Bool
+target_no_memory BadTarget = false
+target_no_memory NoMemory = true
 
 -- the resource, or the fault that there is none
 abbrev pub read_target : List ℕ → List ℕ → Result Resource TargetFault

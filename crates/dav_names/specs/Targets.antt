@@ -4,7 +4,7 @@ use Rattle.std.specs.List.{list_all, list_any, flat_map, starts_with}
 use Rattle.std.specs.Option.{option_map, option_and_then, option_or}
 use Rattle.std.specs.Str.{bytes_eq, str_eq_ignore_ascii_case}
 use Rattle.dsv_base.specs.Lines.{cut_at}
-use Rattle.dsv_base.specs.Numbers.{decimal}
+use Rattle.dsv_base.specs.Numbers.{read_decimal}
 use Rattle.dsv_base.specs.Paths.{components, is_component, is_path, root_text}
 use Rattle.dsv_base.specs.declared.txn_name.TxnName.{TxnName}
 use Rattle.dav_names.specs.declared.resource.Resource.{Resource}
@@ -32,11 +32,12 @@ from_slash (b ∷ bs) = if b == 47 then Some (b ∷ bs) else from_slash bs
 abbrev pub behind_scheme : List ℕ → Option (List ℕ)
 behind_scheme target = option_or (behind (codes "http://") target) (behind (codes "https://") target)
 
--- the path of a target: all of it, or what stands behind a scheme and an authority without `/`
+-- a target without a scheme, or what stands behind the scheme from the first `/` on
 abbrev pub path_after : List ℕ → Option (List ℕ) → Option (List ℕ)
 path_after target None = Some target
 path_after target (Some rest) = from_slash rest
 
+-- the path of a target: all of it, or what stands behind its scheme and authority
 unfoldable pub target_path : List ℕ → Option (List ℕ)
 target_path target = path_after target (behind_scheme target)
 
@@ -53,6 +54,7 @@ abbrev pub parts_of : List ℕ → Option (List (List ℕ))
 parts_of [] = Some []
 parts_of (b ∷ bs) = if b == 47 then Some (components bs) else None
 
+-- a component after its `/`
 abbrev pub after_slash : List ℕ → List ℕ
 after_slash part = 47 ∷ part
 
@@ -67,14 +69,15 @@ path_of parts = if list_all is_component parts && is_path (path_text parts) then
 
 -- a revision's number: 0 to 2,000,000,000 without leading zeros
 abbrev pub rev_named : List ℕ → Option ℕ
-rev_named text = decimal 2000000000 text
+rev_named text = read_decimal 2000000000 text
 
 -- a transaction of this revision and this number, which isn't 0
 abbrev pub txn_of : ℕ → ℕ → Option TxnName
 txn_of base number = if number == 0 then None else Some (record { base = base; number = number })
 
+-- the transaction that the texts of a revision and of a number name
 abbrev pub txn_parts : List ℕ → List ℕ → Option TxnName
-txn_parts base number = option_and_then (λ base. option_and_then (txn_of base) (decimal 4294967295 number)) (rev_named base)
+txn_parts base number = option_and_then (λ base. option_and_then (txn_of base) (read_decimal 4294967295 number)) (rev_named base)
 
 -- a transaction's name: REV, `-`, and 1 to 4,294,967,295 without leading zeros
 unfoldable pub txn_named : List ℕ → Option TxnName

@@ -44,14 +44,15 @@ is_numbered (RevOnly rev) = true
 is_numbered (Txr name path) = not (name.number == 0)
 is_numbered (Txn name) = not (name.number == 0)
 
--- what the types of a path and of a transaction's name keep: it is a path, of bytes; numbers with a bound
+-- what the type of a path keeps: it is a path, of bytes
 abbrev pub IsPathOfBytes : List ℕ → Type 0
 IsPathOfBytes path = IsTrue (is_path path) × All (λ b. b < 256) path
 
+-- what the type of a transaction's name keeps: bounds of its two numbers
 abbrev pub IsName : TxnName → Type 0
 IsName name = (name.base ≤ 2000000000) × (name.number < 2 ^ 32)
 
--- the same of all parts of a resource
+-- what the types of all parts of a resource keep
 abbrev pub IsInRange : Resource → Type 0
 IsInRange (Public path) = IsPathOfBytes path
 IsInRange Me = Unit {0}

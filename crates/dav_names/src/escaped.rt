@@ -1,5 +1,5 @@
 ghost use Rattle.std.specs.Prelude.{◌≡◌, IfOk, Some, None, MatchOption};
-ghost use Rattle.dav_names.specs.Escaped.{begins_with_digits, is_escaped, unescaped};
+ghost use Rattle.dav_names.specs.Escaped.{begins_escape_but_slash, is_escaped, unescaped};
 
 use dsv_base::NoMemory;
 use percent_encoding::percent_decode;
@@ -25,7 +25,7 @@ fn is_escaped(text: &[u8]) -> bool
 {
     let mut rest = text;
     'bytes: while let [byte, after @ ..] = rest {
-        if *byte == b'%' && !begins_with_digits(after) {
+        if *byte == b'%' && !begins_escape_but_slash(after) {
             return false;
         }
         rest = after;
@@ -33,8 +33,9 @@ fn is_escaped(text: &[u8]) -> bool
     true
 }
 
-fn begins_with_digits(text: &[u8]) -> bool
-    ensures { result ≡ begins_with_digits text.now }
+/// Whether what stands behind a `%` begins with two hexadecimal digits, which aren't those of `/`.
+fn begins_escape_but_slash(text: &[u8]) -> bool
+    ensures { result ≡ begins_escape_but_slash text.now }
 {
     match text {
         [high, low, ..] => {

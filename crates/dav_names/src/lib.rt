@@ -4,21 +4,15 @@
 
 mod absolute;
 mod escaped;
-#[cfg(test)]
-mod fault_tests;
 mod parts;
 mod read;
-#[cfg(test)]
-mod read_tests;
 mod resource;
 mod special;
 mod target_fault;
 #[cfg(test)]
-mod test_parts;
+mod tests;
 mod txn_names;
 mod write;
-#[cfg(test)]
-mod write_tests;
 
 pub use dsv_base::TxnName;
 pub use read::read_target;

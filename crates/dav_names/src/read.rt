@@ -3,7 +3,7 @@ ghost use Rattle.std.specs.List.{list_any};
 ghost use Rattle.dsv_base.specs.Gives.{Gives};
 ghost use Rattle.dsv_base.specs.Paths.{components};
 ghost use Rattle.dav_names.specs.Targets.{is_mark, named, resource_at, target};
-ghost use Rattle.dav_names.specs.Reading.{is_no_memory, read_target};
+ghost use Rattle.dav_names.specs.Reading.{target_no_memory, read_target};
 
 use crate::absolute::{after_root, target_path, without_slash};
 use crate::escaped::unescaped;
@@ -17,7 +17,7 @@ use std::alloc::Global;
 /// The resource that a request target names in the repository with this root, as `/svn/NAME`.
 /// [`TargetFault::BadTarget`] comes exactly where it names none.
 pub fn read_target(alloc: Global, root: &[u8], target: &[u8]) -> Result<Resource, TargetFault>
-    ensures { Gives is_no_memory result (read_target root.now target.now) }
+    ensures { Gives target_no_memory result (read_target root.now target.now) }
 {
     match resource_of(alloc, root, target)? {
         None => Err(TargetFault::BadTarget),

@@ -1,5 +1,4 @@
 ghost use Rattle.std.specs.Prelude.{◌≡◌, ◌<◌, All, ◌++◌, IfOk, OnOk, IsTrue, Some, true, codes};
-ghost use Rattle.std.specs.Fmt.{decimal};
 ghost use Rattle.std.specs.Str.{bytes_eq};
 ghost use Rattle.dsv_base.specs.Names.{is_repository_name};
 ghost use Rattle.dsv_base.specs.Paths.{root_text};
@@ -7,7 +6,7 @@ ghost use Rattle.dav_names.specs.Targets.{root_of, target};
 ghost use Rattle.dav_names.specs.Written.{txn_text, path_end, resource_text, target_text, is_root, is_numbered, IsInRange, IsName, IsPathOfBytes};
 
 use crate::resource::Resource;
-use dsv_base::{Bytes, NoMemory, Path, Rev, TxnName, url_text};
+use dsv_base::{Bytes, NoMemory, Path, Rev, TxnName, push_decimal, url_text};
 use std::alloc::Global;
 
 /// The root of the repository with this name: `/svn/NAME`. Its one error is want of memory.
@@ -47,43 +46,37 @@ fn put_resource(alloc: Global, out: &mut Vec<u8>, resource: &Resource) -> Result
         Resource::Me => out.extend_from_slice(b"/!svn/me")?,
         Resource::Rvr(rev, path) => {
             out.extend_from_slice(b"/!svn/rvr/")?;
-            put_number(alloc, out, rev.get())?;
+            push_decimal(out, u64::from(rev.get()))?;
             put_path(alloc, out, path)?;
         }
         Resource::RevOnly(rev) => {
             out.extend_from_slice(b"/!svn/rev/")?;
-            put_number(alloc, out, rev.get())?;
+            push_decimal(out, u64::from(rev.get()))?;
         }
         Resource::Txr(name, path) => {
             out.extend_from_slice(b"/!svn/txr/")?;
-            put_name(alloc, out, name)?;
+            put_name(out, name)?;
             put_path(alloc, out, path)?;
         }
         Resource::Txn(name) => {
             out.extend_from_slice(b"/!svn/txn/")?;
-            put_name(alloc, out, name)?;
+            put_name(out, name)?;
         }
     }
     Ok(())
 }
 
-fn put_number(alloc: Global, out: &mut Vec<u8>, number: u32) -> Result<(), NoMemory>
-    ensures { OnOk result (out.new.items ≡ out.old.items ++ decimal number) }
-{
-    let text = format!(in alloc; "{number}")?;
-    out.extend_from_slice(text.as_bytes())?;
-    Ok(())
-}
-
-fn put_name(alloc: Global, out: &mut Vec<u8>, name: &TxnName) -> Result<(), NoMemory>
+/// The name of a transaction: the number of its revision, `-`, and its own.
+fn put_name(out: &mut Vec<u8>, name: &TxnName) -> Result<(), NoMemory>
     ensures value { OnOk result (out.new.items ≡ out.old.items ++ txn_text name.now) }
     ensures range { OnOk result (IsName name.now) }
 {
-    put_number(alloc, out, name.base.get())?;
+    push_decimal(out, u64::from(name.base.get()))?;
     out.push(b'-')?;
-    put_number(alloc, out, name.number)
+    push_decimal(out, u64::from(name.number))
 }
 
+/// A path behind the root or a stub: nothing for `/`.
 #[tactic(auto, unfolding(dsv_base::specs::Escapes::url_text))]
 fn put_path(alloc: Global, out: &mut Vec<u8>, path: &Path) -> Result<(), NoMemory>
     ensures value { OnOk result (out.new.items ≡ out.old.items ++ path_end path.now) }

@@ -3,7 +3,11 @@ use Rattle.std.specs.Prelude.{Bool, true, false}
 use Rattle.dav_replies.specs.declared.refusal.Refusal.{Refusal}
 use Rattle.dav_replies.specs.declared.refusal.Refusal.TheVariants.{NoMemory}
 
--- want of memory may come at any point
+-- the refusal that is free: want of memory may come at any point
+abbrev pub refusal_no_memory : Refusal → Bool
+refusal_no_memory NoMemory = true
+refusal_no_memory _ = false
+
+-- the same under its former name, as long as crates above say it so
 abbrev pub is_no_memory : Refusal → Bool
-is_no_memory NoMemory = true
-is_no_memory _ = false
+is_no_memory = refusal_no_memory

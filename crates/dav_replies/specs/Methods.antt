@@ -31,12 +31,12 @@ methods =
     ∷ Copy ∷ Merge ∷ Lock ∷ Unlock ∷ []
 
 -- whether a method has a name; the case of letters counts (RFC 9110, section 9.1)
-abbrev pub is_named : List ℕ → Method → Bool
-is_named name method = bytes_eq (method_name method) name
+abbrev pub has_name : List ℕ → Method → Bool
+has_name name method = bytes_eq (method_name method) name
 
 -- the method that has a name
 unfoldable pub method_of : List ℕ → Option Method
-method_of name = find (is_named name) methods
+method_of name = find (has_name name) methods
 
 -- the methods that a resource takes, in the order in which Allow lists them
 abbrev pub methods_of : AllowKind → List Method
@@ -50,7 +50,7 @@ methods_of Txn = Proppatch ∷ Delete ∷ []
 
 -- whether a resource takes a method
 unfoldable pub is_allowed : AllowKind → Method → Bool
-is_allowed kind method = list_any (is_named (method_name method)) (methods_of kind)
+is_allowed kind method = list_any (has_name (method_name method)) (methods_of kind)
 
 -- the value of the field Allow: the names of the methods that a resource takes (RFC 9110, section 10.2.1)
 unfoldable pub allow_list : AllowKind → List ℕ

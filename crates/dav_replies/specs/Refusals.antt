@@ -13,6 +13,10 @@ use Rattle.dav_replies.specs.Methods.{allow_list}
 use Rattle.dav_replies.specs.Tables.{row_of, form_name}
 use Rattle.dav_replies.specs.Replies.{field_of, reply_text}
 
+-- the sum that was told and that of the text, in hexadecimal
+abbrev pub sums_text : List ℕ → List ℕ → List ℕ
+sums_text told got = codes "told " ++ encode_lower told ++ codes ", got " ++ encode_lower got
+
 -- what a refusal tells beside its name
 abbrev pub detail_of : Refusal → Option (List ℕ)
 detail_of (NoRevision rev) = Some (decimal rev)
@@ -20,7 +24,7 @@ detail_of (OutOfDate created) = Some (decimal created)
 detail_of (Conflict path) = Some path
 detail_of (Locked path) = Some path
 detail_of (NotInProfile form) = Some (form_name form)
-detail_of (WrongText told got) = Some (codes "told " ++ encode_lower told ++ codes ", got " ++ encode_lower got)
+detail_of (WrongText told got) = Some (sums_text told got)
 detail_of _ = None
 
 -- the detail behind the name
@@ -37,6 +41,7 @@ abbrev pub condition_of : Refusal → Written
 condition_of InfiniteDepth = empty_element (codes "D:propfind-finite-depth") []
 condition_of _ = Nothing
 
+-- the element for the reader: the code as an attribute, and the text
 abbrev pub human_readable : Refusal → Written
 human_readable refusal = text_element (codes "m:human-readable") (attribute (codes "errcode") (decimal (row_of refusal).code) ∷ []) (text_of refusal)
 
@@ -46,6 +51,7 @@ error_tree refusal =
     element (codes "D:error") (binding (codes "D") (uri_of Dav) ∷ binding (codes "m") (uri_of ApacheDav) ∷ [])
     (joined (condition_of refusal) (human_readable refusal))
 
+-- the bytes of that document
 unfoldable pub error_text : Refusal → List ℕ
 error_text refusal = body_text (error_tree refusal)
 
@@ -56,9 +62,11 @@ own_fields (WrongMethod kind) = field_of (codes "Allow") (allow_list kind) ∷ [
 own_fields (Exists kind) = field_of (codes "Allow") (allow_list kind) ∷ []
 own_fields _ = []
 
+-- the type of a body in XML
 abbrev pub xml_type : Field
 xml_type = field_of (codes "Content-Type") (codes "text/xml; charset=\"utf-8\"")
 
+-- the reply that tells a refusal
 unfoldable pub refusal_reply : Refusal → Reply
 refusal_reply refusal = record {
   status = (row_of refusal).status;

@@ -1,11 +1,11 @@
 ghost use Rattle.std.specs.Prelude.{◌≡◌, ◌++◌, IfOk, OnOk, codes};
 ghost use Rattle.hex.specs.Hex.{encode_lower};
 ghost use Rattle.std.specs.Fmt.{decimal};
-ghost use Rattle.dav_replies.specs.Refusals.{text_of, after_name, detail_of};
+ghost use Rattle.dav_replies.specs.Refusals.{text_of, after_name, detail_of, sums_text};
 
 use crate::refusal::Refusal;
 use crate::tables::{form_name, row_of};
-use dsv_base::{NoMemory, Rev};
+use dsv_base::{NoMemory, Rev, push_decimal};
 use std::alloc::Global;
 
 /// The text for the reader: the refusal's name and what it tells beside that.
@@ -21,8 +21,8 @@ fn put_detail(alloc: Global, out: &mut Vec<u8>, refusal: &Refusal) -> Result<(),
     ensures { OnOk result (out.new.items ≡ out.old.items ++ after_name (detail_of refusal.now)) }
 {
     match refusal {
-        Refusal::NoRevision { rev } => put_number(alloc, out, *rev),
-        Refusal::OutOfDate { created } => put_number(alloc, out, *created),
+        Refusal::NoRevision { rev } => put_number(out, *rev),
+        Refusal::OutOfDate { created } => put_number(out, *created),
         Refusal::Conflict { path } => put_text(out, path.text()),
         Refusal::Locked { path } => put_text(out, path.text()),
         Refusal::NotInProfile { form } => put_text(out, form_name(*form)),
@@ -39,12 +39,11 @@ fn put_text(out: &mut Vec<u8>, detail: &[u8]) -> Result<(), NoMemory>
     Ok(())
 }
 
-fn put_number(alloc: Global, out: &mut Vec<u8>, rev: Rev) -> Result<(), NoMemory>
+fn put_number(out: &mut Vec<u8>, rev: Rev) -> Result<(), NoMemory>
     ensures { OnOk result (out.new.items ≡ out.old.items ++ codes ": " ++ decimal rev) }
 {
-    let number = rev.get();
-    let number = format!(in alloc; "{number}")?;
-    put_text(out, number.as_bytes())
+    out.extend_from_slice(b": ")?;
+    push_decimal(out, u64::from(rev.get()))
 }
 
 /// Two MD5 sums in hexadecimal: the one that was told, and that of the text.
@@ -54,7 +53,7 @@ fn put_sums(
     told: &[u8; 16],
     got: &[u8; 16],
 ) -> Result<(), NoMemory>
-    ensures { OnOk result (out.new.items ≡ out.old.items ++ codes ": told " ++ encode_lower told.now ++ codes ", got " ++ encode_lower got.now) }
+    ensures { OnOk result (out.new.items ≡ out.old.items ++ codes ": " ++ sums_text told.now got.now) }
 {
     out.extend_from_slice(b": told ")?;
     put_hex(alloc, out, told)?;

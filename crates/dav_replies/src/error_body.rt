@@ -6,7 +6,7 @@ use crate::detail::text_of;
 use crate::refusal::Refusal;
 use crate::tables::row_of;
 use dav_documents::{Namespace, Writer};
-use dsv_base::{Bytes, NoMemory};
+use dsv_base::{Bytes, NoMemory, decimal_text};
 use std::alloc::Global;
 
 /// The document that tells a refusal.
@@ -45,10 +45,10 @@ fn put_human_readable(alloc: Global, out: &mut Writer, refusal: &Refusal) -> Res
     ensures { OnOk result (out.new ≡ with_elements (human_readable refusal.now) out.old) }
 {
     let code = row_of(refusal).code;
-    let code = format!(in alloc; "{code}")?;
+    let code = decimal_text(alloc, u64::from(code))?;
     let text = text_of(alloc, refusal)?;
     out.start(b"m:human-readable")?;
-    out.attribute(b"errcode", code.as_bytes())?;
+    out.attribute(b"errcode", code.get())?;
     out.text(text.as_slice())?;
     out.end(b"m:human-readable")
 }

@@ -1,6 +1,6 @@
 ghost use Rattle.std.specs.Prelude.{◌≡◌};
 ghost use Rattle.std.specs.List.{find};
-ghost use Rattle.dav_replies.specs.Methods.{method_name, is_named, method_of, methods_of, is_allowed, allow_list};
+ghost use Rattle.dav_replies.specs.Methods.{method_name, has_name, method_of, methods_of, is_allowed, allow_list};
 
 use crate::allow_kind::AllowKind;
 
@@ -84,7 +84,7 @@ impl Method {
 
 /// The first of the methods that has this name.
 fn first_named(methods: &[Method], name: &[u8]) -> Option<Method>
-    ensures { result ≡ find (is_named name.now) methods.now }
+    ensures { result ≡ find (has_name name.now) methods.now }
 {
     'methods: for method in methods {
         if method.name() == name {

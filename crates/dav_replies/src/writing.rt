@@ -4,7 +4,7 @@ ghost use Rattle.dav_replies.specs.Tables.{reason_of};
 ghost use Rattle.dav_replies.specs.Replies.{IsWritable, reply_text, status_line, field_line, field_text, length_line, last_line};
 
 use crate::tables::reason_of;
-use dsv_base::{Bytes, Field, NoMemory, Reply};
+use dsv_base::{Bytes, Field, NoMemory, Reply, decimal_text, push_decimal};
 use std::alloc::Global;
 
 /// Room for a head, in bytes; a longer one grows.
@@ -28,7 +28,7 @@ pub fn reply_bytes(
     let content = reply.content.get();
     let room = if head_only { 0 } else { content.len() };
     let mut out = Vec::with_capacity(alloc, room.saturating_add(HEAD_ROOM))?;
-    put_status_line(alloc, &mut out, reply.status)?;
+    put_status_line(&mut out, reply.status)?;
     put_fields(&mut out, reply.fields.get())?;
     put_length_line(alloc, &mut out, reply.status, content.len())?;
     put_last_line(&mut out, last)?;
@@ -37,12 +37,11 @@ pub fn reply_bytes(
     Ok(Bytes::from_vec(out))
 }
 
-fn put_status_line(alloc: Global, out: &mut Vec<u8>, status: u16) -> Result<(), NoMemory>
+fn put_status_line(out: &mut Vec<u8>, status: u16) -> Result<(), NoMemory>
     ensures { OnOk result (out.new.items ≡ out.old.items ++ status_line status) }
 {
-    let number = format!(in alloc; "{status}")?;
     out.extend_from_slice(b"HTTP/1.1 ")?;
-    out.extend_from_slice(number.as_bytes())?;
+    push_decimal(out, u64::from(status))?;
     out.extend_from_slice(b" ")?;
     put_reason(out, status)?;
     out.extend_from_slice(b"\r\n")?;
@@ -89,8 +88,8 @@ fn put_length_line(
     if status == 204 {
         return Ok(());
     }
-    let number = format!(in alloc; "{length}")?;
-    put_field(out, b"Content-Length", number.as_bytes())
+    let number = decimal_text(alloc, length as u64)?;
+    put_field(out, b"Content-Length", number.get())
 }
 
 fn put_last_line(out: &mut Vec<u8>, last: bool) -> Result<(), NoMemory>

@@ -3,18 +3,18 @@ use Rattle.std.specs.Prelude.{ℕ, List, [], true, false}
 use Rattle.dav_replies.specs.declared.refusal.Refusal as reply
 use Rattle.dav_replies.specs.declared.refusal.Refusal.TheVariants as replies
 use Rattle.dav_replies.specs.Refusals.{refusal_bytes}
-use Rattle.http_front.specs.declared.refusal.Refusal.{Refusal}
-use Rattle.http_front.specs.declared.refusal.Refusal.TheVariants.{BadMessage, HeadTooLarge, BodyTooLarge}
+use Rattle.http_front.specs.declared.message_fault.MessageFault.{MessageFault}
+use Rattle.http_front.specs.declared.message_fault.MessageFault.TheVariants.{BadMessage, HeadTooLarge, BodyTooLarge}
 use Rattle.http_front.specs.Messages.{End, LastGiven, Left, RefusedAt}
 
 -- the refusal of a message, as it is told
-abbrev pub told : Refusal → reply.Refusal
+abbrev pub told : MessageFault → reply.Refusal
 told BadMessage = replies.BadMessage
 told HeadTooLarge = replies.HeadTooLarge
 told BodyTooLarge = replies.BodyTooLarge
 
 -- its bytes, which say that the connection ends, and have their content whatever the method
-abbrev pub closing_text : Refusal → List ℕ
+abbrev pub closing_text : MessageFault → List ℕ
 closing_text why = refusal_bytes (told why) false true
 
 -- what is put where the bytes of a connection end so

@@ -5,7 +5,7 @@ use Rattle.std.specs.List.{concat}
 use Rattle.dsv_outside.specs.declared.serve_end.ServeEnd.{ServeEnd}
 use Rattle.dsv_outside.specs.declared.serve_end.ServeEnd.TheVariants.{Ended, Closed, BrokeOff, ReadFault, WriteFault, NoMemory}
 use Rattle.dsv_outside.specs.Clocks.{Reads}
-use Rattle.http_front.specs.declared.refusal.Refusal.{Refusal}
+use Rattle.http_front.specs.declared.message_fault.MessageFault.{MessageFault}
 use Rattle.http_front.specs.declared.request.Request.{Request}
 use Rattle.http_front.specs.declared.user.User.{User}
 use Rattle.http_front.specs.Messages.{IsFirst, Messages, End, LastGiven, Left, RefusedAt}
@@ -92,7 +92,7 @@ pub record CutClosing (opening : State) (pass : ℕ) (users : List User) (p q : 
   pub bytes : List ℕ
   pub requests : List Request
   pub outputs : List (List ℕ)
-  pub why : Refusal
+  pub why : MessageFault
   pub offset : ℕ
   pub length_put : ℕ
   pub talks : Talks opening pass p q bytes requests outputs

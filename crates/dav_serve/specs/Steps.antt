@@ -4,7 +4,7 @@ use Rattle.std.specs.Io.KnownBytes.{Appends, Keeps, Consumes, IsAtEnd}
 use Rattle.dsv_outside.specs.declared.serve_end.ServeEnd.{ServeEnd}
 use Rattle.dsv_outside.specs.declared.serve_end.ServeEnd.TheVariants.{Ended, Closed, BrokeOff, ReadFault, WriteFault, NoMemory}
 use Rattle.dsv_outside.specs.Clocks.{Reads}
-use Rattle.http_front.specs.declared.refusal.Refusal.{Refusal}
+use Rattle.http_front.specs.declared.message_fault.MessageFault.{MessageFault}
 use Rattle.http_front.specs.declared.request.Request.{Request}
 use Rattle.http_front.specs.declared.user.User.{User}
 use Rattle.http_front.specs.Answers.{GivesRequest, Waits, Refuses}
@@ -81,7 +81,7 @@ pub record Received (users : List User) (front later : FrontState) (p q : Point)
 
 -- the front refused a message, and this was told
 pub record Refused (users : List User) (front : FrontState) (p q : Point) (result : Option ServeEnd) : Type 0 where
-  pub why : Refusal
+  pub why : MessageFault
   pub refuses : Refuses users front why
   pub sent : SendSays true (closing_text why) p.taken q.taken result
   pub history : q.history ≡ p.history

@@ -6,7 +6,7 @@ use dav_machine::{Hub, Solo};
 use dsv_base::Bytes;
 use dsv_outside::{MemClock, MemSink, MemSource, Source, SureKeeper, SureSource};
 use http_front::read_users;
-use rev_trees::read_script;
+use rev_scripts::read_script;
 use std::process::Abort;
 use std::test::Fail;
 

@@ -5,7 +5,7 @@ use Rattle.dsv_outside.specs.Causes.{HasCause, Rose}
 use Rattle.dsv_outside.proofs.Causes.{Rose-earlier}
 use Rattle.authz_file.specs.declared.rules.Rules.{Rules}
 use Rattle.http_front.specs.declared.user.User.{User}
-use Rattle.rev_trees.specs.Trees.{Repository}
+use Rattle.rev_nodes.specs.Trees.{Repository}
 use Rattle.davsvn_run.specs.declared.end.End.{End}
 use Rattle.davsvn_run.specs.declared.end.End.TheVariants.{Well, Usage, BadFile, BrokeOff, ReadFault, WriteFault, FileFault, NoMemory, OtherRight}
 use Rattle.davsvn_run.specs.declared.unread.Unread.{Unread}

@@ -11,8 +11,8 @@ use Rattle.http_front.specs.declared.user.User.{User}
 use Rattle.http_front.specs.Messages.{Messages, End, LastGiven, Left, RefusedAt}
 use Rattle.http_front.specs.UsersFile.{users_of}
 use Rattle.http_front.proofs.OneReading.{messages_same}
-use Rattle.rev_trees.specs.Scripts.{repository_from}
-use Rattle.rev_trees.specs.Trees.{Repository}
+use Rattle.rev_scripts.specs.Scripts.{repository_from}
+use Rattle.rev_nodes.specs.Trees.{Repository}
 use Rattle.davsvn_run.specs.declared.end.End.{End as run_end}
 use Rattle.davsvn_run.specs.declared.end.End.TheVariants as ends
 use Rattle.davsvn_run.specs.Commands.{Command, Pipe, AccessOf, FileNames}

@@ -8,9 +8,9 @@ use Rattle.authz_file.specs.Resolving.{rules_of}
 use Rattle.http_front.specs.declared.user.User.{User}
 use Rattle.http_front.specs.declared.users_fault.UsersFault.TheVariants as users_faults
 use Rattle.http_front.specs.UsersFile.{users_of}
-use Rattle.rev_trees.specs.declared.script_fault.ScriptFault.TheVariants as script_faults
-use Rattle.rev_trees.specs.Trees.{Repository}
-use Rattle.rev_trees.specs.Scripts.{repository_from}
+use Rattle.rev_scripts.specs.declared.script_fault.ScriptFault.TheVariants as script_faults
+use Rattle.rev_nodes.specs.Trees.{Repository}
+use Rattle.rev_scripts.specs.Scripts.{repository_from}
 use Rattle.davsvn_run.specs.declared.end.End.{End}
 use Rattle.davsvn_run.specs.declared.end.End.TheVariants as end
 use Rattle.davsvn_run.specs.declared.unread.Unread.{Unread}

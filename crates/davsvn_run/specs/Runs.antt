@@ -10,7 +10,7 @@ use Rattle.dav_serve.specs.Serves.{Serves}
 use Rattle.dsv_outside.specs.declared.serve_end.ServeEnd.{ServeEnd}
 use Rattle.dsv_outside.specs.declared.serve_end.ServeEnd.TheVariants as serve_end
 use Rattle.http_front.specs.declared.user.User.{User}
-use Rattle.rev_trees.specs.Trees.{Repository}
+use Rattle.rev_nodes.specs.Trees.{Repository}
 use Rattle.davsvn_run.specs.declared.end.End.{End}
 use Rattle.davsvn_run.specs.declared.end.End.TheVariants as end
 use Rattle.davsvn_run.specs.Asking.{right_asked, right_line, is_expected}

@@ -5,7 +5,7 @@ use Rattle.http_front.specs.declared.request.Request.{Request}
 use Rattle.http_front.specs.declared.user.User.{User}
 use Rattle.http_front.specs.Messages.{Messages, End, LastGiven, Left, RefusedAt}
 use Rattle.http_front.specs.Sections.{is_idle}
-use Rattle.rev_trees.specs.Trees.{Repository}
+use Rattle.rev_nodes.specs.Trees.{Repository}
 use Rattle.davsvn_run.specs.Commands.{FileNames}
 use Rattle.davsvn_run.specs.Opening.{Contents}
 use Rattle.davsvn_run.specs.Runs.{Opens}

@@ -1,7 +1,7 @@
 ghost use Rattle.std.specs.Prelude.{◌≡◌, ◌⊎◌, ◌≤◌, length};
 ghost use Rattle.dsv_outside.specs.Causes.{HasCause};
 ghost use Rattle.dsv_outside.specs.Reads.{Holds};
-ghost use Rattle.rev_trees.specs.Forests.{repository_of};
+ghost use Rattle.rev_nodes.specs.Forests.{repository_of};
 ghost use Rattle.davsvn_run.specs.declared.end.End.TheVariants as end;
 ghost use Rattle.davsvn_run.specs.Opening.{refused_at, IsScript, IsNoScript, AreRules, AreNoRules, AreUsers, AreNoUsers, ReadsFile, is_failed_read, end_of};
 
@@ -11,7 +11,8 @@ use authz_file::{Rules, read_rules};
 use dsv_base::{Bytes, NoMemory};
 use dsv_outside::{FileGot, Files};
 use http_front::{Users, UsersFault, read_users};
-use rev_trees::{ScriptFault, Trees, read_script};
+use rev_scripts::{ScriptFault, read_script};
+use rev_trees::Trees;
 use std::alloc::Global;
 
 /// The bytes of a file.

@@ -1,6 +1,6 @@
 ghost use Rattle.std.specs.Prelude.{◌≡◌, ◌⊎◌, MatchResult};
 ghost use Rattle.dsv_outside.specs.Causes.{Rose};
-ghost use Rattle.rev_trees.specs.Forests.{repository_of};
+ghost use Rattle.rev_nodes.specs.Forests.{repository_of};
 ghost use Rattle.authz_check.specs.Kept.{Kept};
 ghost use Rattle.dav_machine.specs.Hubs.{new_hub};
 ghost use Rattle.davsvn_run.specs.Runs.{point, AreOpen, PipeSays};

@@ -28,6 +28,23 @@ any-slash xs = any-append xs (47 ∷ []) ∙ or-true (list_any is_slash xs)
 any-other : (xs : List ℕ) (b : ℕ) → is_slash b ≡ false → list_any is_slash (xs ++ b ∷ []) ≡ list_any is_slash xs
 any-other xs b other = any-append xs (b ∷ []) ∙ ap (λ c. list_any is_slash xs || (c || false)) other ∙ or-false (list_any is_slash xs)
 
+-- a text that has a `/` within
+pub slash_within : (xs rest : List ℕ) → list_any is_slash (xs ++ 47 ∷ rest) ≡ true
+slash_within [] rest = refl
+slash_within (x ∷ xs) rest = ap (λ b. is_slash x || b) (slash_within xs rest) ∙ or-true (is_slash x)
+
+-- what stands before the last `/` of a text, a `/` and more
+pub cut_below : (xs rest : List ℕ) → before_last_slash (xs ++ 47 ∷ rest) ≡ (if list_any is_slash rest then xs ++ 47 ∷ before_last_slash rest else xs)
+cut_below [] rest = refl
+cut_below (x ∷ xs) rest =
+    ap (λ b. if b then x ∷ before_last_slash (xs ++ 47 ∷ rest) else []) (slash_within xs rest)
+    ∙ ap (λ front. x ∷ front) (cut_below xs rest)
+    ∙ inside (list_any is_slash rest)
+  where
+    inside : (b : Bool) → x ∷ (if b then xs ++ 47 ∷ before_last_slash rest else xs) ≡ (if b then (x ∷ xs) ++ 47 ∷ before_last_slash rest else x ∷ xs)
+    inside true = refl
+    inside false = refl
+
 -- a `/` at the end, and nothing before it is lost
 pub before_last_slash-slash : (xs : List ℕ) → before_last_slash (xs ++ 47 ∷ []) ≡ xs
 before_last_slash-slash [] = refl

@@ -38,6 +38,7 @@ hex_digit n = if nat_lt n 10 then 48 + n else 55 + n
 abbrev pub percent_escape : ℕ → List ℕ
 percent_escape b = 37 ∷ hex_digit (b / 16 % 16) ∷ hex_digit (b % 16) ∷ []
 
+-- a byte as it is written in a URL
 abbrev pub url_escape : ℕ → List ℕ
 url_escape b = if is_url_byte b then b ∷ [] else percent_escape b
 

@@ -1,6 +1,7 @@
 -- What a call answers is what a definition says, but for an error that is free, as want of memory is.
 use Rattle.std.specs.Prelude.{◌≡◌, Bool, Result, Ok, Err, MatchBool}
 
+-- the answer is the one that is right, but where its error is free
 abbrev pub Gives : {X E : Type 0} → (E → Bool) → Result X E → Result X E → Type 0
 Gives is_free (Ok x) right = right ≡ Ok x
 Gives is_free (Err e) right = MatchBool (is_free e) (Unit {0}) (right ≡ Err e)

@@ -1,4 +1,5 @@
 pub mod Gives
+pub mod Options
 pub mod Paths
 pub mod Escapes
 pub mod Names

@@ -7,6 +7,10 @@ use Rattle.dsv_base.specs.Lines.{lines_of}
 abbrev pub is_blank : ℕ → Bool
 is_blank b = b == 32 || b == 9
 
+-- the byte that parts the words of a list
+abbrev pub is_comma : ℕ → Bool
+is_comma b = b == 44
+
 -- without the blanks in front
 abbrev pub without_front : List ℕ → List ℕ
 without_front [] = []
@@ -45,6 +49,7 @@ abbrev pub left_size : Option (List ℕ) → ℕ
 left_size None = 0
 left_size (Some text) = length text + 1
 
+-- a text begins with a byte
 abbrev pub begins_with : ℕ → List ℕ → Bool
 begins_with byte [] = false
 begins_with byte (b ∷ bs) = b == byte

@@ -1,12 +1,37 @@
-ghost use Rattle.std.specs.Prelude.{◌≡◌, ◌*◌, ◌+◌, ◌-◌, ◌<◌, ◌≤◌, ◌^◌, IsTrue, IfSome, List, ℕ, if◌then◌else◌, Some, None, nat_le, true};
-ghost use Rattle.dsv_base.specs.Numbers.{decimal, is_decimal, is_digit, digits_after};
+ghost use Rattle.std.specs.Prelude.{◌≡◌, ◌*◌, ◌+◌, ◌-◌, ◌<◌, ◌≤◌, ◌^◌, ◌++◌, ℕ, IsTrue, IfOk, IfSome, OnOk, List, if◌then◌else◌, Some, None, nat_le, true};
+ghost use Rattle.std.specs.Fmt.{decimal};
+ghost use Rattle.dsv_base.specs.Numbers.{read_decimal, is_decimal, is_digit, digits_after};
 ghost use Rattle.std.specs.List.{list_all};
+
+use crate::bytes::Bytes;
+use crate::no_memory::NoMemory;
+use std::alloc::Global;
+
+/// The number in decimal, without leading zeros. Its one error is want of memory.
+#[tactic(auto, using(crate::proofs::Decimals::read_back))]
+pub fn decimal_text(alloc: Global, number: u64) -> Result<Bytes, NoMemory>
+    ensures value { IfOk result (λ text. text ≡ decimal number) }
+    ensures read { (most : ℕ) → number ≤ most → read_decimal most (decimal number) ≡ Some number }
+{
+    let text = format!(in alloc; "{number}")?;
+    Ok(Bytes::from_vec(text.into_bytes()))
+}
+
+/// Adds the number in decimal, without leading zeros. Its one error is want of memory, and then nothing
+/// was added.
+pub fn push_decimal(out: &mut Vec<u8>, number: u64) -> Result<(), NoMemory>
+    ensures { OnOk result (out.new.items ≡ out.old.items ++ decimal number) }
+{
+    let text = format!(in *out.allocator(); "{number}")?;
+    out.extend_from_slice(text.as_bytes())?;
+    Ok(())
+}
 
 /// The number that `text` spells in decimal, without a sign and without leading zeros; `None`
 /// where it spells none, or one above `most`.
-#[tactic(auto, unfolding(crate::specs::Numbers::decimal))]
+#[tactic(auto, unfolding(crate::specs::Numbers::read_decimal))]
 pub fn read_decimal(text: &[u8], most: u64) -> Option<u64>
-    ensures value { result ≡ decimal most text.now }
+    ensures value { result ≡ read_decimal most text.now }
     ensures bound { IfSome result (λ n. n ≤ most) }
 {
     if !is_decimal_text(text) {

@@ -4,14 +4,10 @@
 
 mod bytes;
 mod decimal;
-#[cfg(test)]
-mod escape_tests;
 mod escapes;
 mod field;
 mod form;
 mod given;
-#[cfg(test)]
-mod join_tests;
 mod lines;
 mod list;
 mod log_ask;
@@ -34,7 +30,7 @@ mod text_files;
 mod txn_name;
 
 pub use bytes::Bytes;
-pub use decimal::{read_decimal, read_digits};
+pub use decimal::{decimal_text, push_decimal, read_decimal, read_digits};
 pub use escapes::{push_xml_text, url_text, xml_plain, xml_text};
 pub use field::Field;
 pub use form::Form;

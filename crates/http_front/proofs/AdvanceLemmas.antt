@@ -6,12 +6,12 @@ use Rattle.std.proofs.lemmas.List.{length-take-le}
 use Rattle.http_front.specs.declared.framing.Framing.{Framing}
 use Rattle.http_front.specs.declared.framing.Framing.TheVariants.{Sized, Chunked, TooLong, Unframed}
 use Rattle.http_front.specs.declared.head.Head.{Head}
-use Rattle.http_front.specs.declared.refusal.Refusal.{Refusal}
-use Rattle.http_front.specs.declared.refusal.Refusal.TheVariants.{BadMessage, HeadTooLarge, BodyTooLarge}
+use Rattle.http_front.specs.declared.message_fault.MessageFault.{MessageFault}
+use Rattle.http_front.specs.declared.message_fault.MessageFault.TheVariants.{BadMessage, HeadTooLarge, BodyTooLarge}
 use Rattle.http_front.specs.declared.request.Request.{Request}
 use Rattle.http_front.specs.declared.user.User.{User}
 use Rattle.http_front.specs.Advances.{HasHead, HasFramed, request_with}
-use Rattle.http_front.specs.Chunks.{IsContent, within_limit}
+use Rattle.http_front.specs.Chunks.{IsContent, within_encoded_limit}
 use Rattle.http_front.specs.Framings.{framing}
 use Rattle.http_front.specs.Heads.{IsRead, IsNone}
 use Rattle.http_front.specs.Logins.{login_of}
@@ -94,16 +94,16 @@ module _ (users : List User) (number : ℕ) (bytes : List ℕ) where
 
   module _ (head : Head) (framed : HasFramed bytes head Chunked) where
     by_content : (content : Outcome (List ℕ)) → IsContent (take 134217728 (drop head.len bytes)) content
-        → IsFirst users number bytes (chunked_outcome users number framed.head_is.read.grammar head.len (within_limit (drop head.len bytes) content))
+        → IsFirst users number bytes (chunked_outcome users number framed.head_is.read.grammar head.len (within_encoded_limit (drop head.len bytes) content))
     by_content content is_content =
         first_framed head Chunked framed _
-        (within_limit (drop head.len bytes) content, record { content = content; is_content = is_content; is = refl }, refl)
+        (within_encoded_limit (drop head.len bytes) content, record { content = content; is_content = is_content; is = refl }, refl)
 
     pub first_chunked : (body : List ℕ) (used : ℕ) → IsContent (take 134217728 (drop head.len bytes)) (Whole body used) → IsFirst users number bytes (Whole (request_with users number head body) (head.len + used))
     first_chunked body used content =
         subst (λ r. IsFirst users number bytes (Whole r (head.len + used))) (request_is head Chunked framed body) (by_content (Whole body used) content)
 
-    pub first_chunks_fail : (why : Refusal) → IsContent (take 134217728 (drop head.len bytes)) (Refused why) → IsFirst users number bytes (Refused why)
+    pub first_chunks_fail : (why : MessageFault) → IsContent (take 134217728 (drop head.len bytes)) (Refused why) → IsFirst users number bytes (Refused why)
     first_chunks_fail why content = by_content (Refused why) content
 
     pub first_chunks_open : IsContent (take 134217728 (drop head.len bytes)) Part → length (drop head.len bytes) ≤ 134217728 → IsFirst users number bytes Part

@@ -6,10 +6,10 @@ use Rattle.std.proofs.lemmas.List.{drop-drop, take_all, take-append-le, drop-app
 use Rattle.std.proofs.Math.Seq.{take-append-add}
 use Rattle.httparse.specs.Grammar.{ChunkLine, IsChunkLine, print_chunk_line, chunk_size, ReadsChunkLine, HasNoChunkLine}
 use Rattle.httparse.proofs.ChunkLemmas.{chunk_line_unique, ReadsChunkLine-append}
-use Rattle.http_front.specs.declared.refusal.Refusal.{Refusal}
+use Rattle.http_front.specs.declared.message_fault.MessageFault.{MessageFault}
 use Rattle.http_front.specs.declared.size_line.SizeLine.{SizeLine}
 use Rattle.http_front.specs.declared.size_line.SizeLine.TheVariants.{Line, Unended, Unreadable}
-use Rattle.http_front.specs.Chunks.{IsSizeLine, AreChunks, HasChunks, EndsBody, IsContent, chunk_step, chunk_length, after_data, moved}
+use Rattle.http_front.specs.Chunks.{IsSizeLine, AreChunks, HasChunks, EndsBody, IsContent, chunk_step, chunk_length, after_data, placed_after}
 use Rattle.http_front.specs.Outcomes.{Outcome, Refused}
 
 -- ---- lists
@@ -100,7 +100,7 @@ data_closed_stable [] more e = cc
 data_closed_stable (b ∷ []) more e = absurd (omega (arith, data_closed (b ∷ []) e))
 data_closed_stable (b ∷ c ∷ bytes) more e = e
 
-pub data_wrong_stable : (bytes more : List ℕ) (why : Refusal) → after_data bytes ≡ Some (Refused why) → after_data (bytes ++ more) ≡ Some (Refused why)
+pub data_wrong_stable : (bytes more : List ℕ) (why : MessageFault) → after_data bytes ≡ Some (Refused why) → after_data (bytes ++ more) ≡ Some (Refused why)
 data_wrong_stable [] more why e = cc
 data_wrong_stable (b ∷ []) [] why e = e
 data_wrong_stable (b ∷ []) (c ∷ more) why e =
@@ -254,4 +254,4 @@ contents_same (c ∷ cs) (d ∷ ds) before bytes body other used more x y a b e 
 pub content_unique : (bytes : List ℕ) (x y : Outcome (List ℕ)) → IsContent bytes x → IsContent bytes y → x ≡ y
 content_unique bytes x y c d =
     let same = contents_same c.chunks.chunks d.chunks.chunks [] bytes c.body d.body c.used d.used c.ending d.ending c.chunks.are d.chunks.are c.ends d.ends in
-    c.is ∙ ap (λ k. moved k c.ending) same.used_is ∙ ap (moved d.used) same.ending_is ∙ sym d.is
+    c.is ∙ ap (λ k. placed_after k c.ending) same.used_is ∙ ap (placed_after d.used) same.ending_is ∙ sym d.is

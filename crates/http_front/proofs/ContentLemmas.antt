@@ -3,10 +3,10 @@ use Rattle.std.proofs.Common.{◌≡◌, ℕ, ◌+◌, ◌<◌, ◌≤◌, true,
 use Rattle.std.specs.Prelude.{◌==◌}
 use Rattle.std.proofs.lemmas.Bool.Decides.{nat_tests}
 use Rattle.std.proofs.lemmas.List.{drop-append-le}
-use Rattle.http_front.specs.declared.place.Place.TheVariants.{Between}
+use Rattle.http_front.specs.declared.byte_place.BytePlace.TheVariants.{Between}
 use Rattle.http_front.specs.declared.size_line.SizeLine.{SizeLine}
 use Rattle.http_front.specs.declared.size_line.SizeLine.TheVariants.{Line, Unended, Unreadable}
-use Rattle.http_front.specs.Chunks.{IsSizeLine, EndsBody, IsContent, chunk_step, after_data, after_last, moved}
+use Rattle.http_front.specs.Chunks.{IsSizeLine, EndsBody, IsContent, chunk_step, after_data, after_last, placed_after}
 use Rattle.http_front.specs.Outcomes.{Outcome, Whole, Part, Refused}
 use Rattle.http_front.specs.Sections.{section_from}
 use Rattle.http_front.proofs.ChunkLemmas.{line_length, line_stable, unreadable_stable, data_wrong_stable, chunks_within, has_stable}
@@ -81,7 +81,7 @@ ends_stable body bytes more x Unreadable is_line e f = record {
   ends = e;
 }
 
-moved_final : (used : ℕ) (x y : Outcome (List ℕ)) → x ≡ moved used y → IsFinal x → IsFinal y
+moved_final : (used : ℕ) (x y : Outcome (List ℕ)) → x ≡ placed_after used y → IsFinal x → IsFinal y
 moved_final used x (Whole b n) e f = tt
 moved_final used x Part e f = part_not_final x (sym e) f
 moved_final used x (Refused why) e f = tt
@@ -133,7 +133,7 @@ ends_size body bytes b m (Line n size) is_line e = step_size body bytes b m n si
 ends_size body bytes b m Unended is_line e = cc
 ends_size body bytes b m Unreadable is_line e = cc
 
-moved_size : (used most : ℕ) (b : List ℕ) (n : ℕ) (y : Outcome (List ℕ)) → Whole b n ≡ moved used y → ((a : List ℕ) (m : ℕ) → y ≡ Whole a m → used + m ≤ most) → n ≤ most
+moved_size : (used most : ℕ) (b : List ℕ) (n : ℕ) (y : Outcome (List ℕ)) → Whole b n ≡ placed_after used y → ((a : List ℕ) (m : ℕ) → y ≡ Whole a m → used + m ≤ most) → n ≤ most
 moved_size used most b n (Whole a m) e bound = omega (arith, bound a m refl, whole_size b a n (used + m) e)
 moved_size used most b n Part e bound = cc
 moved_size used most b n (Refused why) e bound = cc

@@ -6,7 +6,7 @@ use Rattle.http_front.specs.declared.next.Next.{Next}
 use Rattle.http_front.specs.declared.next.Next.TheVariants as nexts
 use Rattle.http_front.specs.declared.phase.Phase.{Phase}
 use Rattle.http_front.specs.declared.phase.Phase.TheVariants.{Open, Finished, Stopped}
-use Rattle.http_front.specs.declared.refusal.Refusal.{Refusal}
+use Rattle.http_front.specs.declared.message_fault.MessageFault.{MessageFault}
 use Rattle.http_front.specs.declared.request.Request.{Request}
 use Rattle.http_front.specs.declared.user.User.{User}
 use Rattle.http_front.specs.Answers.{NextSays, GivesRefusal}
@@ -35,17 +35,17 @@ fed_shut Open s piece e shut = absurd shut
 fed_shut Finished s piece e shut = rw e refl
 fed_shut (Stopped why) s piece e shut = rw e refl
 
-stopped_same : (s : FrontState) (why : Refusal) → s.phase ≡ Stopped why → stopped why s ≡ s
+stopped_same : (s : FrontState) (why : MessageFault) → s.phase ≡ Stopped why → stopped why s ≡ s
 stopped_same s why e = λ i. record { number = s.number; at = s.at; rest = s.rest; phase = sym e i }
 
-stopped_not_open : (why : Refusal) → Stopped why ≡ Open → ⊥
+stopped_not_open : (why : MessageFault) → Stopped why ≡ Open → ⊥
 stopped_not_open why e = cc
 
 fed_open : (s : FrontState) (piece : List ℕ) → s.phase ≡ Open → fed s piece ≡ record s { rest = s.rest ++ piece }
 fed_open s piece e = rw e refl
 
 module _ (users : List User) where
-  refusal_shut : (s m : FrontState) (why : Refusal) → IsShut s.phase → GivesRefusal users s m why → m ≡ s
+  refusal_shut : (s m : FrontState) (why : MessageFault) → IsShut s.phase → GivesRefusal users s m why → m ≡ s
   refusal_shut s m why shut g =
       elim g.when [
         | inl refuses ↦ absurd (open_is_not_shut s.phase refuses.is_open shut)
@@ -74,7 +74,7 @@ module _ (users : List User) where
   abbrev pub Comes : FrontState → List ℕ → List Request → End → Type 0
   Comes s bytes requests end = MessagesFrom users s.number s.at (s.rest ++ bytes) requests end
 
-  after_refusal : (steps : List Step) (s m t : FrontState) (why : Refusal) (end : End) → s.phase ≡ Open → GivesRefusal users s m why → Run users steps m t → EndsAt users t.phase t end
+  after_refusal : (steps : List Step) (s m t : FrontState) (why : MessageFault) (end : End) → s.phase ≡ Open → GivesRefusal users s m why → Run users steps m t → EndsAt users t.phase t end
       → Comes s (fed_bytes steps) (given_requests steps) end
   after_refusal steps s m t why end is_open g run ends =
       elim g.when [

@@ -9,11 +9,11 @@ use Rattle.httparse.proofs.GrammarLemmas.{request_unique}
 use Rattle.dsv_base.specs.declared.field.Field.{Field}
 use Rattle.http_front.specs.declared.framing.Framing.{Framing}
 use Rattle.http_front.specs.declared.framing.Framing.TheVariants.{Sized, Chunked, TooLong, Unframed}
-use Rattle.http_front.specs.declared.refusal.Refusal.{Refusal}
-use Rattle.http_front.specs.declared.refusal.Refusal.TheVariants.{HeadTooLarge}
+use Rattle.http_front.specs.declared.message_fault.MessageFault.{MessageFault}
+use Rattle.http_front.specs.declared.message_fault.MessageFault.TheVariants.{HeadTooLarge}
 use Rattle.http_front.specs.declared.request.Request.{Request}
 use Rattle.http_front.specs.declared.user.User.{User}
-use Rattle.http_front.specs.Chunks.{IsContent, IsBody, within_limit}
+use Rattle.http_front.specs.Chunks.{IsContent, IsBody, within_encoded_limit}
 use Rattle.http_front.specs.Fields.{has_field}
 use Rattle.http_front.specs.Framings.{framing, framed_by, length_framing, coding_framing, sized, is_number}
 use Rattle.http_front.specs.Messages.{IsFirst, IsMessage, IsNoHead, HeadSays, FramingSays, head_fields, request_of, sized_outcome, chunked_outcome}
@@ -29,7 +29,7 @@ part_not_final x e f = subst IsFinal e f
 -- ---- one outcome
 
 body_unique : (bytes : List ℕ) (x y : Outcome (List ℕ)) → IsBody bytes x → IsBody bytes y → x ≡ y
-body_unique bytes x y a b = a.is ∙ ap (within_limit bytes) (content_unique (take 134217728 bytes) a.content b.content a.is_content b.is_content) ∙ sym b.is
+body_unique bytes x y a b = a.is ∙ ap (within_encoded_limit bytes) (content_unique (take 134217728 bytes) a.content b.content a.is_content b.is_content) ∙ sym b.is
 
 module _ (users : List User) (number : ℕ) where
   framing_unique : (head : RequestHead) (n : ℕ) (after : List ℕ) (how : Framing) (x y : Outcome Request) → FramingSays users number head n after how x → FramingSays users number head n after how y → x ≡ y
@@ -69,7 +69,7 @@ body_taken bytes more x c f =
     let longer = take_longer 134217728 bytes more in
     subst (λ t. IsContent t x) (sym longer.1) (content_stable (take 134217728 bytes) longer.0 x c f)
 
-body_by : (bytes more : List ℕ) (content x : Outcome (List ℕ)) → IsContent (take 134217728 bytes) content → x ≡ within_limit bytes content → IsFinal x → IsBody (bytes ++ more) x
+body_by : (bytes more : List ℕ) (content x : Outcome (List ℕ)) → IsContent (take 134217728 bytes) content → x ≡ within_encoded_limit bytes content → IsFinal x → IsBody (bytes ++ more) x
 body_by bytes more (Whole b n) x c e f = record { content = Whole b n; is_content = body_taken bytes more (Whole b n) c tt; is = e }
 body_by bytes more (Refused why) x c e f = record { content = Refused why; is_content = body_taken bytes more (Refused why) c tt; is = e }
 body_by bytes more Part x c e f =
@@ -146,7 +146,7 @@ module _ (users : List User) (number : ℕ) where
   pub whole_stable : (bytes more : List ℕ) (r : Request) (n : ℕ) → IsFirst users number bytes (Whole r n) → IsFirst users number (bytes ++ more) (Whole r n)
   whole_stable bytes more r n a = first_stable bytes more (Whole r n) a tt
 
-  pub refused_stable : (bytes more : List ℕ) (why : Refusal) → IsFirst users number bytes (Refused why) → IsFirst users number (bytes ++ more) (Refused why)
+  pub refused_stable : (bytes more : List ℕ) (why : MessageFault) → IsFirst users number bytes (Refused why) → IsFirst users number (bytes ++ more) (Refused why)
   refused_stable bytes more why a = first_stable bytes more (Refused why) a tt
 
 -- ---- sizes
@@ -228,7 +228,7 @@ is_small fields Unframed e = tt
 
 module _ (users : List User) (number : ℕ) (bytes : List ℕ) where
   module _ (head : RequestHead) (n : ℕ) (fits : (0 < n) × (n ≤ length bytes) × (n ≤ 16384)) where
-    chunked_sizes : (content : Outcome (List ℕ)) → IsContent (take 134217728 (drop n bytes)) content → Sizes bytes (chunked_outcome users number head n (within_limit (drop n bytes) content))
+    chunked_sizes : (content : Outcome (List ℕ)) → IsContent (take 134217728 (drop n bytes)) content → Sizes bytes (chunked_outcome users number head n (within_encoded_limit (drop n bytes) content))
     chunked_sizes (Whole body used) c =
         let size = content_size (take 134217728 (drop n bytes)) body used c in
         let taken = length-take 134217728 (drop n bytes) in
@@ -236,7 +236,7 @@ module _ (users : List User) (number : ℕ) (bytes : List ℕ) where
         (omega (arith, fits.0), omega (arith, size, taken, dropped, fits.1), omega (arith, size, taken, fits.2))
     chunked_sizes (Refused why) c = tt
     chunked_sizes Part c =
-        elim (nat_lt 134217728 (length (drop n bytes))) as (λ v. nat_lt 134217728 (length (drop n bytes)) ≡ v → Sizes bytes (chunked_outcome users number head n (within_limit (drop n bytes) Part))) [
+        elim (nat_lt 134217728 (length (drop n bytes))) as (λ v. nat_lt 134217728 (length (drop n bytes)) ≡ v → Sizes bytes (chunked_outcome users number head n (within_encoded_limit (drop n bytes) Part))) [
           | true ↦ λ t. rw t tt
           | false ↦ λ t.
               let short : length (drop n bytes) ≤ 134217728 = grind (arith, nat_tests) in

@@ -1,4 +1,4 @@
-pub mod Authorizations
+pub mod NamedFields
 pub mod UserLines
 pub mod NamePlaces
 pub mod Rows
@@ -11,6 +11,6 @@ pub mod ContentLemmas
 pub mod AdvanceLemmas
 pub mod Laws
 pub mod RefusalLemmas
-pub mod KeptLemmas
+pub mod InsideLemmas
 pub mod Cuttings
 pub mod OneReading

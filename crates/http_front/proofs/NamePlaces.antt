@@ -12,7 +12,7 @@ use Rattle.std.proofs.lemmas.Map.Text.{is_eq-slice_cmp}
 use Rattle.dsv_base.specs.Names.{is_user_name}
 use Rattle.dsv_base.proofs.TextMaps.{order, at, lookup-inserted}
 use Rattle.http_front.specs.declared.user.User.{User}
-use Rattle.http_front.specs.Logins.{is_user}
+use Rattle.http_front.specs.Logins.{has_credentials}
 use Rattle.http_front.specs.UsersFile.{names, AreNamed}
 
 -- ---- the first place of a name
@@ -113,40 +113,40 @@ found_named name n (m ∷ ns) at all h =
 
 -- ---- a user that is found by the name
 
-pub none_named : (name password : List ℕ) (n m : ℕ) (users : List User) → position_from (bytes_eq name) n (names users) ≡ None → position_from (is_user name password) m users ≡ None
+pub none_named : (name password : List ℕ) (n m : ℕ) (users : List User) → position_from (bytes_eq name) n (names users) ≡ None → position_from (has_credentials name password) m users ≡ None
 none_named name password n m [] h = refl
 none_named name password n m (u ∷ us) h =
-    elim (bytes_eq name u.name) as (λ v. bytes_eq name u.name ≡ v → position_from (is_user name password) m (u ∷ us) ≡ None) [
+    elim (bytes_eq name u.name) as (λ v. bytes_eq name u.name ≡ v → position_from (has_credentials name password) m (u ∷ us) ≡ None) [
       | true ↦ λ e. absurd (cc (rw e at h))
       | false ↦ λ e. rw e (none_named name password (n + 1) (m + 1) us (rw e at h))
     ] refl
 
-none_later : (name password : List ℕ) (m : ℕ) (users : List User) → AllByRecursion (λ y. bytes_eq name y ≡ false) (names users) → position_from (is_user name password) m users ≡ None
+none_later : (name password : List ℕ) (m : ℕ) (users : List User) → AllByRecursion (λ y. bytes_eq name y ≡ false) (names users) → position_from (has_credentials name password) m users ≡ None
 none_later name password m [] h = refl
 none_later name password m (u ∷ us) h = rw h.0 (none_later name password (m + 1) us h.1)
 
 -- the user at the first place of a name is the only one of it
 pub the_one_named : (name password : List ℕ) (n m : ℕ) (users : List User) (place : ℕ) (d : User) → position_from (bytes_eq name) n (names users) ≡ Some place → IsDistinct bytes_eq (names users)
-    → (k : ℕ) × (place ≡ n + k) × (k < length users) × (position_from (is_user name password) m users ≡ cond (bytes_eq password (get_or users k d).password) (Some (m + k)) None)
+    → (k : ℕ) × (place ≡ n + k) × (k < length users) × (position_from (has_credentials name password) m users ≡ cond (bytes_eq password (get_or users k d).password) (Some (m + k)) None)
 unfolding IsDistinct
 the_one_named name password n m [] place d h distinct = absurd (cc h)
 the_one_named name password n m (u ∷ us) place d h distinct = either (bytes_eq name u.name) refl (the_one_named name password (n + 1) (m + 1) us place d)
   where
-    here : (a b : Bool) → a ≡ true → position_from (is_user name password) (m + 1) us ≡ None → cond (a && b) (Some m) (position_from (is_user name password) (m + 1) us) ≡ cond b (Some (m + 0)) None
+    here : (a b : Bool) → a ≡ true → position_from (has_credentials name password) (m + 1) us ≡ None → cond (a && b) (Some m) (position_from (has_credentials name password) (m + 1) us) ≡ cond b (Some (m + 0)) None
     here true true e none = ap (λ (k : ℕ). Some k) (omega arith)
     here true false e none = none
     here false b e none = cc
 
-    next : (k : ℕ) → place ≡ n + 1 + k → k < length us → position_from (is_user name password) (m + 1) us ≡ cond (bytes_eq password (get_or us k d).password) (Some (m + 1 + k)) None → bytes_eq name u.name ≡ false
-        → (k : ℕ) × (place ≡ n + k) × (k < length (u ∷ us)) × (position_from (is_user name password) m (u ∷ us) ≡ cond (bytes_eq password (get_or (u ∷ us) k d).password) (Some (m + k)) None)
+    next : (k : ℕ) → place ≡ n + 1 + k → k < length us → position_from (has_credentials name password) (m + 1) us ≡ cond (bytes_eq password (get_or us k d).password) (Some (m + 1 + k)) None → bytes_eq name u.name ≡ false
+        → (k : ℕ) × (place ≡ n + k) × (k < length (u ∷ us)) × (position_from (has_credentials name password) m (u ∷ us) ≡ cond (bytes_eq password (get_or (u ∷ us) k d).password) (Some (m + k)) None)
     next k shift within there e =
-        let here : position_from (is_user name password) m (u ∷ us) ≡ cond (bytes_eq password (get_or us k d).password) (Some (m + 1 + k)) None = rw e there in
+        let here : position_from (has_credentials name password) m (u ∷ us) ≡ cond (bytes_eq password (get_or us k d).password) (Some (m + 1 + k)) None = rw e there in
         (suc k, omega (arith, shift), omega (arith, within), here ∙ ap (λ (j : ℕ). cond (bytes_eq password (get_or us k d).password) (Some j) None) (omega arith))
 
     either : (v : Bool) → bytes_eq name u.name ≡ v
         → (position_from (bytes_eq name) (n + 1) (names us) ≡ Some place → IsDistinct bytes_eq (names us)
-        → (k : ℕ) × (place ≡ n + 1 + k) × (k < length us) × (position_from (is_user name password) (m + 1) us ≡ cond (bytes_eq password (get_or us k d).password) (Some (m + 1 + k)) None))
-        → (k : ℕ) × (place ≡ n + k) × (k < length (u ∷ us)) × (position_from (is_user name password) m (u ∷ us) ≡ cond (bytes_eq password (get_or (u ∷ us) k d).password) (Some (m + k)) None)
+        → (k : ℕ) × (place ≡ n + 1 + k) × (k < length us) × (position_from (has_credentials name password) (m + 1) us ≡ cond (bytes_eq password (get_or us k d).password) (Some (m + 1 + k)) None))
+        → (k : ℕ) × (place ≡ n + k) × (k < length (u ∷ us)) × (position_from (has_credentials name password) m (u ∷ us) ≡ cond (bytes_eq password (get_or (u ∷ us) k d).password) (Some (m + k)) None)
     either true e later =
         let found : Some n ≡ Some place = sym (rw e refl) ∙ h in
         let is : n ≡ place = cc in
@@ -161,7 +161,7 @@ the_one_named name password n m (u ∷ us) place d h distinct = either (bytes_eq
 
 -- the user at the place of a name, by the password
 pub named_user : (name password : List ℕ) (users : List User) (place : ℕ) (d : User) → position_from (bytes_eq name) 0 (names users) ≡ Some place → IsDistinct bytes_eq (names users)
-    → (place < length users) × (d ≡ get_or users place d → position_from (is_user name password) 1 users ≡ cond (bytes_eq password d.password) (Some (place + 1)) None)
+    → (place < length users) × (d ≡ get_or users place d → position_from (has_credentials name password) 1 users ≡ cond (bytes_eq password d.password) (Some (place + 1)) None)
 named_user name password users place d h distinct =
     let one = the_one_named name password 0 1 users place d h distinct in
     let same : one.0 ≡ place = omega (arith, one.1) in (

@@ -1,7 +1,7 @@
 -- The bytes of a connection are one list of requests, and come to one end.
 use Rattle.std.proofs.Common.{◌≡◌, ℕ, ◌+◌, Bool, true, false, List, [], ◌∷◌, drop, refl, sym, ap, ◌∙◌, subst}
 use Rattle.std.specs.Prelude.{MatchBool}
-use Rattle.http_front.specs.declared.refusal.Refusal.{Refusal}
+use Rattle.http_front.specs.declared.message_fault.MessageFault.{MessageFault}
 use Rattle.http_front.specs.declared.request.Request.{Request}
 use Rattle.http_front.specs.declared.user.User.{User}
 use Rattle.http_front.specs.Messages.{IsFirst, MessagesFrom, EndSays, End, LastGiven, Left, RefusedAt}
@@ -14,7 +14,7 @@ module _ (users : List User) where
   whole_same number bytes r a n k x y =
       let same : Whole r n ≡ Whole a k = first_unique users number bytes (Whole r n) (Whole a k) x y in (cc, cc)
 
-  why_same : (number : ℕ) (bytes : List ℕ) (why cause : Refusal) → IsFirst users number bytes (Refused why) → IsFirst users number bytes (Refused cause) → why ≡ cause
+  why_same : (number : ℕ) (bytes : List ℕ) (why cause : MessageFault) → IsFirst users number bytes (Refused why) → IsFirst users number bytes (Refused cause) → why ≡ cause
   why_same number bytes why cause x y =
       let same : ◌≡◌ {A = Outcome Request} (Refused why) (Refused cause) = first_unique users number bytes (Refused why) (Refused cause) x y in cc
 
@@ -26,7 +26,7 @@ module _ (users : List User) where
   whole_is_no_end number at bytes request n (RefusedAt why offset) first ended =
       let never : Whole request n ≡ Refused why = first_unique users number bytes (Whole request n) (Refused why) first ended.0 in absurd (cc)
 
-  part_is_not_refused : (number : ℕ) (bytes : List ℕ) (why : Refusal) → IsFirst users number bytes Part → IsFirst users number bytes (Refused why) → ⊥
+  part_is_not_refused : (number : ℕ) (bytes : List ℕ) (why : MessageFault) → IsFirst users number bytes Part → IsFirst users number bytes (Refused why) → ⊥
   part_is_not_refused number bytes why x y =
       let never : ◌≡◌ {A = Outcome Request} Part (Refused why) = first_unique users number bytes Part (Refused why) x y in absurd (cc)
 

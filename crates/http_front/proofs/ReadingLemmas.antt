@@ -2,15 +2,15 @@
 use Rattle.std.proofs.Common.{◌≡◌, ◌≢◌, ℕ, ◌+◌, ◌<◌, ◌≤◌, true, false, List, ◌++◌, length, take, drop, nat_lt, nat_eq, refl, sym, ap, ◌∙◌, subst, arith, length-append, length-take, length-drop, Some, None}
 use Rattle.std.proofs.lemmas.Bool.Decides.{nat_tests}
 use Rattle.std.proofs.lemmas.List.{drop-drop, drop_all}
-use Rattle.http_front.specs.declared.place.Place.{Place}
-use Rattle.http_front.specs.declared.place.Place.TheVariants.{Between}
-use Rattle.http_front.specs.declared.refusal.Refusal.TheVariants.{HeadTooLarge, BodyTooLarge}
-use Rattle.http_front.specs.declared.section.Section.{Section}
+use Rattle.http_front.specs.declared.byte_place.BytePlace.{BytePlace}
+use Rattle.http_front.specs.declared.byte_place.BytePlace.TheVariants.{Between}
+use Rattle.http_front.specs.declared.message_fault.MessageFault.TheVariants.{HeadTooLarge, BodyTooLarge}
+use Rattle.http_front.specs.declared.line_section.LineSection.{LineSection}
 use Rattle.http_front.specs.declared.size_line.SizeLine.{SizeLine}
 use Rattle.http_front.specs.declared.size_line.SizeLine.TheVariants.{Line}
 use Rattle.http_front.specs.declared.stage.Stage.{Stage}
 use Rattle.http_front.specs.declared.stage.Stage.TheVariants.{AtLine, InData, InTrailers}
-use Rattle.http_front.specs.Chunks.{IsSizeLine, HasChunks, IsContent, chunk_step, chunk_length, after_data, after_last, moved}
+use Rattle.http_front.specs.Chunks.{IsSizeLine, HasChunks, IsContent, chunk_step, chunk_length, after_data, after_last, placed_after}
 use Rattle.http_front.specs.Outcomes.{Outcome, Whole, Part, Refused}
 use Rattle.http_front.specs.Readings.{IsData, IsReading, StageSays}
 use Rattle.http_front.specs.Scans.{further}
@@ -19,7 +19,7 @@ use Rattle.http_front.proofs.ChunkLemmas.{line_length, has_more, whole_fits}
 use Rattle.http_front.proofs.ScanLemmas.{scanned_here}
 
 pub content_from : (bytes body : List ℕ) (used : ℕ) (line : SizeLine) (ending : Outcome (List ℕ)) → HasChunks bytes body used → IsSizeLine (drop used bytes) line
-    → chunk_step body line (drop used bytes) ≡ Some ending → IsContent bytes (moved used ending)
+    → chunk_step body line (drop used bytes) ≡ Some ending → IsContent bytes (placed_after used ending)
 content_from bytes body used line ending chunks is_line step = record {
   body = body;
   used = used;
@@ -51,7 +51,7 @@ module _ (bytes body : List ℕ) (used : ℕ) (stage : Stage) (reading : IsReadi
     pub data_bound : n + size ≤ 16778240
     data_bound = omega (arith, line_length (drop used bytes) n size data_here.is_line, data_here.fits)
 
-    pub data_ends : (ending : Outcome (List ℕ)) → after_data (drop (n + size) (drop used bytes)) ≡ Some ending → IsContent bytes (moved used ending)
+    pub data_ends : (ending : Outcome (List ℕ)) → after_data (drop (n + size) (drop used bytes)) ≡ Some ending → IsContent bytes (placed_after used ending)
     data_ends ending e = content_from bytes body used (Line n size) ending reading.chunks data_here.is_line (data_step body (drop used bytes) n size data_here.some data_here.fits ∙ e)
 
     pub data_short : length (drop used bytes) ≤ n + size → IsContent bytes Part
@@ -73,7 +73,7 @@ module _ (bytes body : List ℕ) (used : ℕ) (stage : Stage) (reading : IsReadi
 
   -- ---- the last chunk and the trailers
 
-  module _ (n at : ℕ) (place : Place) (is : stage ≡ InTrailers n (record { at = at; place = place })) where
+  module _ (n at : ℕ) (place : BytePlace) (is : stage ≡ InTrailers n (record { at = at; place = place })) where
     pub trailers_here : StageSays body (drop used bytes) (InTrailers n (record { at = at; place = place }))
     trailers_here = subst (StageSays body (drop used bytes)) is reading.stage_says
 
@@ -86,14 +86,14 @@ module _ (bytes body : List ℕ) (used : ℕ) (stage : Stage) (reading : IsReadi
     pub trailers_rest : drop (used + n + at) bytes ≡ drop at (drop n (drop used bytes))
     trailers_rest = sym (ap (drop at) (drop-drop n used bytes) ∙ drop-drop at (used + n) bytes)
 
-    module _ (s : Section) (section : section_from place (drop at (drop n (drop used bytes))) ≡ s) where
+    module _ (s : LineSection) (section : section_from place (drop at (drop n (drop used bytes))) ≡ s) where
       whole_section : section_from Between (drop n (drop used bytes)) ≡ further at s
       whole_section = scanned_here Between (drop n (drop used bytes)) at place trailers_here.1 ∙ ap (further at) section
 
       last_step : chunk_step body (Line n 0) (drop used bytes) ≡ Some (after_last body n (further at s))
       last_step = ap (λ t. Some (after_last body n t)) whole_section
 
-      last_content : IsContent bytes (moved used (after_last body n (further at s)))
+      last_content : IsContent bytes (placed_after used (after_last body n (further at s)))
       last_content = content_from bytes body used (Line n 0) (after_last body n (further at s)) reading.chunks trailers_here.0 last_step
 
       pub trailers_long : 16384 < at + s.lines → IsContent bytes (Refused HeadTooLarge)

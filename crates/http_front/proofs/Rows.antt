@@ -1,7 +1,7 @@
 -- Small texts, worked out by hand.
 use Rattle.std.specs.Prelude.{◌≡◌, ℕ, true, false, List, [], ◌∷◌, ◌++◌, codes, None, Some, refl}
 use Rattle.http_front.specs.declared.framing.Framing.TheVariants.{Sized, Chunked, TooLong, Unframed}
-use Rattle.http_front.specs.declared.place.Place.TheVariants.{Between}
+use Rattle.http_front.specs.declared.byte_place.BytePlace.TheVariants.{Between}
 use Rattle.http_front.specs.Framings.{length_framing, coding_framing}
 use Rattle.http_front.specs.Sections.{head_length, header_lines, is_idle, section_from}
 

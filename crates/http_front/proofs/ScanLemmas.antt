@@ -3,20 +3,20 @@ use Rattle.std.proofs.Common.{◌≡◌, ℕ, ◌+◌, ◌<◌, ◌≤◌, true,
 use Rattle.std.specs.Prelude.{if◌then◌else◌, ◌==◌, ◌&&◌}
 use Rattle.std.proofs.lemmas.List.{drop-drop, drop_all}
 use Rattle.std.proofs.lemmas.Bool.Decides.{nat_tests}
-use Rattle.http_front.specs.declared.place.Place.{Place}
-use Rattle.http_front.specs.declared.place.Place.TheVariants.{Before, Between, Inside}
+use Rattle.http_front.specs.declared.byte_place.BytePlace.{BytePlace}
+use Rattle.http_front.specs.declared.byte_place.BytePlace.TheVariants.{Before, Between, Inside}
 use Rattle.http_front.specs.declared.scan.ScanStep.TheVariants.{Goes}
-use Rattle.http_front.specs.declared.section.Section.{Section}
+use Rattle.http_front.specs.declared.line_section.LineSection.{LineSection}
 use Rattle.http_front.specs.Sections.{section_from, section_end, one_more, line_end_length, begins_with_line_end, is_return_alone, place_after, blank_length}
 use Rattle.http_front.specs.Scans.{ScanStepSays, IsScanned, further}
 
-abbrev pub section_of : ℕ → ℕ → Section
+abbrev pub section_of : ℕ → ℕ → LineSection
 section_of lines closing = record { lines = lines; closing = closing }
 
-abbrev same : (a b n : ℕ) → a ≡ b → ◌≡◌ {A = Section} (record { lines = a; closing = n }) (record { lines = b; closing = n })
+abbrev same : (a b n : ℕ) → a ≡ b → ◌≡◌ {A = LineSection} (record { lines = a; closing = n }) (record { lines = b; closing = n })
 same a b n e = λ i. record { lines = e i; closing = n }
 
-further_more : (at : ℕ) (s : Section) → further at (one_more s) ≡ further (at + 1) s
+further_more : (at : ℕ) (s : LineSection) → further at (one_more s) ≡ further (at + 1) s
 further_more at s = same (at + (s.lines + 1)) (at + 1 + s.lines) s.closing (omega arith)
 
 blank_step : (rest : List ℕ) → 0 < length rest → 0 < line_end_length rest → blank_length rest ≡ blank_length (drop 1 rest) + 1
@@ -42,8 +42,8 @@ blank_more bytes at inside ends so_far =
 pub blank_done : (bytes : List ℕ) (at : ℕ) → line_end_length (drop at bytes) ≡ 0 → blank_length bytes ≡ at + blank_length (drop at bytes) → at ≡ blank_length bytes
 blank_done bytes at ends so_far = omega (arith, blank_stop (drop at bytes) ends)
 
-module _ (first : Place) (bytes : List ℕ) (at : ℕ) (place : Place) (so_far : IsScanned first bytes (record { at = at; place = place })) where
-  pub scanned_more : (next : Place) → at < length bytes → ScanStepSays place (drop at bytes) (Goes next) → IsScanned first bytes (record { at = at + 1; place = next })
+module _ (first : BytePlace) (bytes : List ℕ) (at : ℕ) (place : BytePlace) (so_far : IsScanned first bytes (record { at = at; place = place })) where
+  pub scanned_more : (next : BytePlace) → at < length bytes → ScanStepSays place (drop at bytes) (Goes next) → IsScanned first bytes (record { at = at + 1; place = next })
   scanned_more next inside step = record {
     within = omega arith;
     goes = λ more.
@@ -63,11 +63,11 @@ module _ (first : Place) (bytes : List ℕ) (at : ℕ) (place : Place) (so_far :
   pub scanned_all : (last : ℕ) → length bytes ≤ at → section_from place [] ≡ section_of last 0 → section_from first bytes ≡ section_of (at + last) 0
   scanned_all last all e = scanned_here ∙ ap (λ rest. further at (section_from place rest)) (drop_all at bytes all) ∙ ap (further at) e
 
-further_further : (a b : ℕ) (s : Section) → further a (further b s) ≡ further (a + b) s
+further_further : (a b : ℕ) (s : LineSection) → further a (further b s) ≡ further (a + b) s
 further_further a b s = same (a + (b + s.lines)) (a + b + s.lines) s.closing (omega arith)
 
 -- a reading that goes on from where another stopped
-pub scanned_join : (first place next : Place) (bytes : List ℕ) (at more : ℕ) → IsScanned first bytes (record { at = at; place = place })
+pub scanned_join : (first place next : BytePlace) (bytes : List ℕ) (at more : ℕ) → IsScanned first bytes (record { at = at; place = place })
     → IsScanned place (drop at bytes) (record { at = more; place = next }) → IsScanned first bytes (record { at = at + more; place = next })
 scanned_join first place next bytes at more x y = record {
   within = omega (arith, x.within, y.within, length-drop at bytes);
@@ -93,7 +93,7 @@ line_end_fits (b ∷ c ∷ bytes) =
     ] refl
 
 -- a section has no more bytes than are there, and one that a line may need more
-pub section_within : (place : Place) (bytes : List ℕ) → (section_from place bytes).lines + (section_from place bytes).closing ≤ length bytes + 1
+pub section_within : (place : BytePlace) (bytes : List ℕ) → (section_from place bytes).lines + (section_from place bytes).closing ≤ length bytes + 1
 section_within Inside [] = omega arith
 section_within Inside (b ∷ bytes) = omega (arith, section_within (place_after b) bytes)
 section_within Between [] = omega arith

@@ -3,20 +3,20 @@ use Rattle.std.proofs.Common.{◌≡◌, ℕ, ◌+◌, ◌<◌, ◌≤◌, true,
 use Rattle.std.specs.Prelude.{◌==◌}
 use Rattle.std.proofs.lemmas.Bool.Decides.{nat_tests}
 use Rattle.std.proofs.lemmas.List.{drop-append-le}
-use Rattle.http_front.specs.declared.place.Place.{Place}
-use Rattle.http_front.specs.declared.place.Place.TheVariants.{Before, Between, Inside}
+use Rattle.http_front.specs.declared.byte_place.BytePlace.{BytePlace}
+use Rattle.http_front.specs.declared.byte_place.BytePlace.TheVariants.{Before, Between, Inside}
 use Rattle.http_front.specs.declared.scan.Scan.{Scan}
-use Rattle.http_front.specs.declared.section.Section.{Section}
+use Rattle.http_front.specs.declared.line_section.LineSection.{LineSection}
 use Rattle.http_front.specs.Scans.{IsScanned, further}
 use Rattle.http_front.specs.Sections.{section_from, section_length, one_more, begins_with_line_end, is_return_alone, place_after, head_length}
 use Rattle.http_front.proofs.ScanLemmas.{line_end_fits}
 use Rattle.http_front.proofs.ChunkLemmas.{take_longer}
 
-abbrev IsStable : Place → List ℕ → List ℕ → Type 0
+abbrev IsStable : BytePlace → List ℕ → List ℕ → Type 0
 IsStable place bytes more = 0 < (section_from place bytes).closing → section_from place (bytes ++ more) ≡ section_from place bytes
 
 -- a section that has ended stays, whatever follows
-pub section_stable : (place : Place) (bytes more : List ℕ) → IsStable place bytes more
+pub section_stable : (place : BytePlace) (bytes more : List ℕ) → IsStable place bytes more
 section_stable Inside [] more h = absurd (omega (arith, h))
 section_stable Inside (b ∷ bytes) more h = ap one_more (section_stable (place_after b) bytes more h)
 section_stable Between [] more h = absurd (omega (arith, h))
@@ -51,7 +51,7 @@ section_stable Before (b ∷ c ∷ bytes) more h =
     ] refl
 
 -- a section that has ended lies in the bytes
-pub section_fits : (place : Place) (bytes : List ℕ) → 0 < (section_from place bytes).closing → (section_from place bytes).lines + (section_from place bytes).closing ≤ length bytes
+pub section_fits : (place : BytePlace) (bytes : List ℕ) → 0 < (section_from place bytes).closing → (section_from place bytes).lines + (section_from place bytes).closing ≤ length bytes
 section_fits Inside [] h = absurd (omega (arith, h))
 section_fits Inside (b ∷ bytes) h = omega (arith, section_fits (place_after b) bytes h)
 section_fits Between [] h = absurd (omega (arith, h))
@@ -80,7 +80,7 @@ inside_some [] = omega arith
 inside_some (b ∷ bytes) = omega arith
 
 -- more bytes make no fewer
-pub section_rises : (place : Place) (bytes more : List ℕ) → (section_from place bytes).lines ≤ (section_from place (bytes ++ more)).lines
+pub section_rises : (place : BytePlace) (bytes more : List ℕ) → (section_from place bytes).lines ≤ (section_from place (bytes ++ more)).lines
 section_rises Inside [] more = inside_some more
 section_rises Inside (b ∷ bytes) more = omega (arith, section_rises (place_after b) bytes more)
 section_rises Between [] more = omega arith
@@ -116,7 +116,7 @@ section_rises Before (b ∷ c ∷ bytes) more =
       | false ↦ λ e. rw e (omega (arith, section_rises Inside (c ∷ bytes) more))
     ] refl
 
-pub scanned_stable : (first : Place) (bytes more : List ℕ) (scan : Scan) → IsScanned first bytes scan → IsScanned first (bytes ++ more) scan
+pub scanned_stable : (first : BytePlace) (bytes more : List ℕ) (scan : Scan) → IsScanned first bytes scan → IsScanned first (bytes ++ more) scan
 scanned_stable first bytes more scan x = record {
   within = omega (arith, x.within, length-append bytes more);
   goes = λ rest.
@@ -168,11 +168,11 @@ head_stable bytes more n e =
     let same : section_from Before (take 16384 bytes ++ longer.0) ≡ section_from Before (take 16384 bytes) = section_stable Before (take 16384 bytes) longer.0 ended.0 in
     ap head_length longer.1 ∙ same_head (take 16384 bytes ++ longer.0) (take 16384 bytes) same ∙ e
 
-pub head_from_section : (bytes : List ℕ) (s : Section) → section_from Before bytes ≡ s → 0 < s.closing → head_length bytes ≡ Some (s.lines + s.closing)
+pub head_from_section : (bytes : List ℕ) (s : LineSection) → section_from Before bytes ≡ s → 0 < s.closing → head_length bytes ≡ Some (s.lines + s.closing)
 unfolding head_length
 head_from_section bytes s e h =
     let test : nat_lt 0 s.closing ≡ true = grind (arith, nat_tests) in
     ap section_length e ∙ rw test refl
 
-pub head_none_from : (bytes : List ℕ) (s : Section) → section_from Before bytes ≡ s → s.closing ≡ 0 → head_length bytes ≡ None
-head_none_from bytes s e h = head_none bytes (ap (λ (t : Section). t.closing) e ∙ h)
+pub head_none_from : (bytes : List ℕ) (s : LineSection) → section_from Before bytes ≡ s → s.closing ≡ 0 → head_length bytes ≡ None
+head_none_from bytes s e h = head_none bytes (ap (λ (t : LineSection). t.closing) e ∙ h)

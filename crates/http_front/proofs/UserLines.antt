@@ -8,7 +8,7 @@ use Rattle.dsv_base.specs.TextFiles.{file_lines, lines_left, is_skipped}
 use Rattle.http_front.specs.declared.user.User.{User}
 use Rattle.http_front.specs.declared.users_fault.UsersFault.{UsersFault}
 use Rattle.http_front.specs.declared.users_fault.UsersFault.TheVariants.{BadUsers, NoMemory}
-use Rattle.http_front.specs.UsersFile.{user_of_line, user_lines, is_refused, with_before, first_refused, all_users, unless_refused, users_of, is_no_memory, SaysRefused}
+use Rattle.http_front.specs.UsersFile.{user_of_line, user_lines, is_refused, with_before, first_refused, all_users, unless_refused, users_of, is_free_users_fault, SaysRefused}
 
 -- ---- the reader's way to the first line that is refused
 
@@ -119,7 +119,7 @@ declined fault = Err fault
 
 pub users_refused : (bytes : List ℕ) (users : List User) (number : ℕ) (line : List ℕ) (rest : List (List ℕ)) (fault : UsersFault)
     → refused_from users (user_lines number (line ∷ rest)) ≡ refused_from [] (user_lines 1 (file_lines bytes)) → is_skipped line ≡ false
-    → SaysRefused number (is_refused users (user_of_line line)) fault → Gives is_no_memory (declined fault) (users_of bytes)
+    → SaysRefused number (is_refused users (user_of_line line)) fault → Gives is_free_users_fault (declined fault) (users_of bytes)
 unfolding users_of
 users_refused bytes users number line rest (BadUsers other) so h says =
     let here : refused_from users (user_lines number (line ∷ rest)) ≡ Some number = ap (refused_from users) (counted number line rest h) ∙ refused_at users number line (user_lines (number + 1) rest) says.1 in

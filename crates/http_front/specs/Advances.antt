@@ -7,7 +7,7 @@ use Rattle.http_front.specs.declared.advance.Progress.TheVariants.{InHead, InBod
 use Rattle.http_front.specs.declared.framing.Framing.{Framing}
 use Rattle.http_front.specs.declared.framing.Framing.TheVariants.{Sized, Chunked}
 use Rattle.http_front.specs.declared.head.Head.{Head}
-use Rattle.http_front.specs.declared.place.Place.TheVariants.{Before}
+use Rattle.http_front.specs.declared.byte_place.BytePlace.TheVariants.{Before}
 use Rattle.http_front.specs.declared.request.Request.{Request}
 use Rattle.http_front.specs.declared.user.User.{User}
 use Rattle.http_front.specs.Framings.{framing}
@@ -16,7 +16,7 @@ use Rattle.http_front.specs.Limits.{most_head_bytes, most_header_lines, most_enc
 use Rattle.http_front.specs.Logins.{login_of}
 use Rattle.http_front.specs.Messages.{IsFirst, is_last_of}
 use Rattle.http_front.specs.Outcomes.{Outcome, Whole, Part, Refused}
-use Rattle.http_front.specs.Readings.{Reads}
+use Rattle.http_front.specs.Readings.{ReadsChunks}
 use Rattle.http_front.specs.Scans.{IsScanned}
 use Rattle.http_front.specs.Sections.{head_length, header_lines}
 
@@ -47,7 +47,7 @@ pub record HasFramed (bytes : List ℕ) (head : Head) (how : Framing) : Type 0 w
 abbrev pub IsProgress : List ℕ → Progress → Type 0
 IsProgress bytes (InHead scan) = IsScanned Before (take most_head_bytes bytes) scan
 IsProgress bytes (InBody head size) = HasFramed bytes head (Sized size)
-IsProgress bytes (InChunks head chunks) = HasFramed bytes head Chunked × Reads (take most_encoded_bytes (drop head.len bytes)) chunks
+IsProgress bytes (InChunks head chunks) = HasFramed bytes head Chunked × ReadsChunks (take most_encoded_bytes (drop head.len bytes)) chunks
 
 -- what the bytes at the front are, whoever the users are and however many requests came before
 abbrev pub IsAlways : List ℕ → (List User → ℕ → Outcome Request) → Type 0

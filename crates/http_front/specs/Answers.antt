@@ -1,7 +1,7 @@
 -- What the next answer says of a front.
 use Rattle.std.specs.Prelude.{◌≡◌, ℕ, ⊤, ◌⊎◌, List, if◌then◌else◌}
-use Rattle.http_front.specs.declared.refusal.Refusal as refusal
-use Rattle.http_front.specs.declared.refusal.Refusal.TheVariants as refusals
+use Rattle.http_front.specs.declared.message_fault.MessageFault as fault
+use Rattle.http_front.specs.declared.message_fault.MessageFault.TheVariants as faults
 use Rattle.http_front.specs.declared.request.Request as request
 use Rattle.http_front.specs.declared.next.Next.{Next}
 use Rattle.http_front.specs.declared.next.Next.TheVariants.{Request, More, BadMessage, HeadTooLarge, BodyTooLarge, NoMemory}
@@ -36,12 +36,12 @@ pub record GivesMore (users : List User) (old new : FrontState) : Type 0 where
   pub why : Waits users old ⊎ (old.phase ≡ Finished)
 
 -- the first of the rest is refused
-pub record Refuses (users : List User) (s : FrontState) (why : refusal.Refusal) : Type 0 where
+pub record Refuses (users : List User) (s : FrontState) (why : fault.MessageFault) : Type 0 where
   pub is_open : s.phase ≡ Open
   pub first : IsFirst users s.number s.rest (Refused why)
 
 -- a message is refused, now or at an earlier call
-pub record GivesRefusal (users : List User) (old new : FrontState) (why : refusal.Refusal) : Type 0 where
+pub record GivesRefusal (users : List User) (old new : FrontState) (why : fault.MessageFault) : Type 0 where
   pub stops : new ≡ stopped why old
   pub when : Refuses users old why ⊎ (old.phase ≡ Stopped why)
 
@@ -49,16 +49,16 @@ pub record GivesRefusal (users : List User) (old new : FrontState) (why : refusa
 abbrev pub NextSays : List User → FrontState → FrontState → Next → Type 0
 NextSays users old new (Request r) = GivesRequest users old new r
 NextSays users old new More = GivesMore users old new
-NextSays users old new (BadMessage at) = GivesRefusal users old new refusals.BadMessage × (at ≡ old.at)
-NextSays users old new HeadTooLarge = GivesRefusal users old new refusals.HeadTooLarge
-NextSays users old new BodyTooLarge = GivesRefusal users old new refusals.BodyTooLarge
+NextSays users old new (BadMessage at) = GivesRefusal users old new faults.BadMessage × (at ≡ old.at)
+NextSays users old new HeadTooLarge = GivesRefusal users old new faults.HeadTooLarge
+NextSays users old new BodyTooLarge = GivesRefusal users old new faults.BodyTooLarge
 NextSays users old new NoMemory = new ≡ old
 
 -- the answer for a refusal of the message at an offset
-abbrev pub refusal_next : refusal.Refusal → ℕ → Next
-refusal_next refusals.BadMessage at = BadMessage at
-refusal_next refusals.HeadTooLarge at = HeadTooLarge
-refusal_next refusals.BodyTooLarge at = BodyTooLarge
+abbrev pub refusal_next : fault.MessageFault → ℕ → Next
+refusal_next faults.BadMessage at = BadMessage at
+refusal_next faults.HeadTooLarge at = HeadTooLarge
+refusal_next faults.BodyTooLarge at = BodyTooLarge
 
 -- whoever a given request comes from has a name of the users grammar
 abbrev pub ComesNamed : Next → Type 0

@@ -1,13 +1,13 @@
 -- Bodies by chunks (RFC 9112, section 7.1).
 use Rattle.std.specs.Prelude.{◌≡◌, ℕ, ◌+◌, ◌≤◌, ◌<◌, ◌⊎◌, List, [], ◌∷◌, ◌++◌, length, take, drop, Option, None, Some, ◌==◌, nat_lt, if◌then◌else◌}
 use Rattle.httparse.specs.Grammar.{ChunkLine, print_chunk_line, chunk_size, ReadsChunkLine, HasNoChunkLine, NeverHasChunkLine, MayBecomeChunkLine}
-use Rattle.http_front.specs.declared.place.Place.TheVariants.{Between}
+use Rattle.http_front.specs.declared.byte_place.BytePlace.TheVariants.{Between}
 use Rattle.http_front.specs.declared.size_line.SizeLine.{SizeLine}
 use Rattle.http_front.specs.declared.size_line.SizeLine.TheVariants.{Line, Unended, Unreadable}
-use Rattle.http_front.specs.declared.refusal.Refusal.TheVariants.{BadMessage, HeadTooLarge, BodyTooLarge}
+use Rattle.http_front.specs.declared.message_fault.MessageFault.TheVariants.{BadMessage, HeadTooLarge, BodyTooLarge}
 use Rattle.http_front.specs.Limits.{most_body_bytes, most_encoded_bytes, most_line_bytes, most_trailer_bytes}
 use Rattle.http_front.specs.Outcomes.{Outcome, Whole, Part, Refused}
-use Rattle.http_front.specs.declared.section.Section.{Section}
+use Rattle.http_front.specs.declared.line_section.LineSection.{LineSection}
 use Rattle.http_front.specs.Sections.{section_from}
 
 -- ---- size lines
@@ -28,7 +28,7 @@ after_data (b ∷ []) = if b == 13 then Some Part else Some (Refused BadMessage)
 after_data (b ∷ c ∷ bytes) = if b == 13 then (if c == 10 then None else Some (Refused BadMessage)) else Some (Refused BadMessage)
 
 -- what comes after the size line of n bytes of the last chunk: trailer lines, which are dropped, and an empty line
-abbrev pub after_last : List ℕ → ℕ → Section → Outcome (List ℕ)
+abbrev pub after_last : List ℕ → ℕ → LineSection → Outcome (List ℕ)
 after_last body n s = if nat_lt most_trailer_bytes s.lines then Refused HeadTooLarge else (if nat_lt 0 s.closing then Whole body (n + s.lines + s.closing) else Part)
 
 -- what the bytes at a size line come to, after chunks of this body: nothing if they begin with a whole chunk, after which it goes on
@@ -65,10 +65,10 @@ pub record EndsBody (body bytes : List ℕ) (outcome : Outcome (List ℕ)) : Typ
   pub ends : chunk_step body line bytes ≡ Some outcome
 
 -- a body with so many bytes more in front of it
-abbrev pub moved : ℕ → Outcome (List ℕ) → Outcome (List ℕ)
-moved used (Whole body n) = Whole body (used + n)
-moved used Part = Part
-moved used (Refused why) = Refused why
+abbrev pub placed_after : ℕ → Outcome (List ℕ) → Outcome (List ℕ)
+placed_after used (Whole body n) = Whole body (used + n)
+placed_after used Part = Part
+placed_after used (Refused why) = Refused why
 
 -- all whole chunks at the front, and what the bytes after them come to
 pub record IsContent (bytes : List ℕ) (outcome : Outcome (List ℕ)) : Type 0 where
@@ -77,16 +77,16 @@ pub record IsContent (bytes : List ℕ) (outcome : Outcome (List ℕ)) : Type 0 
   pub ending : Outcome (List ℕ)
   pub chunks : HasChunks bytes body used
   pub ends : EndsBody body (drop used bytes) ending
-  pub is : outcome ≡ moved used ending
+  pub is : outcome ≡ placed_after used ending
 
 -- a part that is longer than a body by chunks may be is refused
-abbrev pub within_limit : List ℕ → Outcome (List ℕ) → Outcome (List ℕ)
-within_limit bytes (Whole body n) = Whole body n
-within_limit bytes Part = if nat_lt most_encoded_bytes (length bytes) then Refused BodyTooLarge else Part
-within_limit bytes (Refused why) = Refused why
+abbrev pub within_encoded_limit : List ℕ → Outcome (List ℕ) → Outcome (List ℕ)
+within_encoded_limit bytes (Whole body n) = Whole body n
+within_encoded_limit bytes Part = if nat_lt most_encoded_bytes (length bytes) then Refused BodyTooLarge else Part
+within_encoded_limit bytes (Refused why) = Refused why
 
 -- the body by chunks at the front, which has its limit
 pub record IsBody (bytes : List ℕ) (outcome : Outcome (List ℕ)) : Type 0 where
   pub content : Outcome (List ℕ)
   pub is_content : IsContent (take most_encoded_bytes bytes) content
-  pub is : outcome ≡ within_limit bytes content
+  pub is : outcome ≡ within_encoded_limit bytes content

@@ -1,6 +1,6 @@
 -- The fields of a head.
-use Rattle.std.specs.Prelude.{ℕ, Bool, List}
-use Rattle.std.specs.List.{list_any}
+use Rattle.std.specs.Prelude.{ℕ, Bool, List, map}
+use Rattle.std.specs.List.{filter, list_any}
 use Rattle.std.specs.Str.{str_eq_ignore_ascii_case}
 use Rattle.httparse.specs.Grammar.{Field as HeaderLine, field_value}
 use Rattle.dsv_base.specs.declared.field.Field.{Field}
@@ -16,3 +16,7 @@ is_named name field = str_eq_ignore_ascii_case field.name name
 -- one of the fields has this name
 abbrev pub has_field : List ℕ → List Field → Bool
 has_field name fields = list_any (is_named name) fields
+
+-- the values of the fields of this name, in the order of the fields
+abbrev pub values_named : List ℕ → List Field → List (List ℕ)
+values_named name fields = map (λ f. f.value) (filter (is_named name) fields)

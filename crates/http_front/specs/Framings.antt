@@ -7,13 +7,18 @@ use Rattle.dsv_base.specs.declared.field.Field.{Field}
 use Rattle.dsv_base.specs.Numbers.{is_digit, digits_after}
 use Rattle.http_front.specs.declared.framing.Framing.{Framing}
 use Rattle.http_front.specs.declared.framing.Framing.TheVariants.{Sized, Chunked, TooLong, Unframed}
-use Rattle.http_front.specs.Fields.{is_named, has_field}
+use Rattle.http_front.specs.Fields.{has_field, values_named}
 use Rattle.http_front.specs.Limits.{most_body_bytes, most_length_digits}
+
+-- the one item of a list that has exactly one
+abbrev pub only : List (List ℕ) → Option (List ℕ)
+only [] = None
+only (value ∷ []) = Some value
+only (value ∷ next ∷ more) = None
 
 -- the value of the field of this name, where there is exactly one
 abbrev pub single : List ℕ → List Field → Option (List ℕ)
-single name [] = None
-single name (field ∷ fields) = if is_named name field then (if has_field name fields then None else Some field.value) else single name fields
+single name fields = only (values_named name fields)
 
 -- one decimal digit or several
 abbrev pub is_number : List ℕ → Bool
@@ -31,6 +36,7 @@ length_framing value = if is_number value then (if nat_lt most_length_digits (le
 unfoldable pub coding_framing : List ℕ → Framing
 coding_framing value = if str_eq_ignore_ascii_case value (codes "chunked") then Chunked else Unframed
 
+-- what the one value says; without one the length isn't clear
 abbrev pub framed_by : (List ℕ → Framing) → Option (List ℕ) → Framing
 framed_by says None = Unframed
 framed_by says (Some value) = says value

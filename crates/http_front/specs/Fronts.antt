@@ -2,7 +2,7 @@
 use Rattle.std.specs.Prelude.{ℕ, ◌+◌, ◌*◌, ◌<◌, ◌≤◌, List, [], ◌++◌, length, drop}
 use Rattle.http_front.specs.declared.phase.Phase.{Phase}
 use Rattle.http_front.specs.declared.phase.Phase.TheVariants.{Open, Finished, Stopped}
-use Rattle.http_front.specs.declared.refusal.Refusal.{Refusal}
+use Rattle.http_front.specs.declared.message_fault.MessageFault.{MessageFault}
 use Rattle.http_front.specs.Limits.{most_requests, most_message_bytes}
 
 -- the requests given so far, the bytes that they had, the bytes fed and not given, and the phase
@@ -22,6 +22,7 @@ fed_in Open s piece = record s { rest = s.rest ++ piece }
 fed_in Finished s piece = s
 fed_in (Stopped why) s piece = s
 
+-- a front that is fed a piece
 abbrev pub fed : FrontState → List ℕ → FrontState
 fed s piece = fed_in s.phase s piece
 
@@ -35,7 +36,8 @@ rest_in (Stopped why) rest = rest
 abbrev pub given : ℕ → Phase → FrontState → FrontState
 given n phase s = record { number = s.number + 1; at = s.at + n; rest = rest_in phase (drop n s.rest); phase = phase }
 
-abbrev pub stopped : Refusal → FrontState → FrontState
+-- a front at which a message was refused for this fault
+abbrev pub stopped : MessageFault → FrontState → FrontState
 stopped why s = record s { phase = Stopped why }
 
 -- the requests and the bytes of an open front are bounded

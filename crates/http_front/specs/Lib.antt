@@ -1,5 +1,5 @@
 pub mod UsersFile
-pub mod Places
+pub mod UserPlaces
 pub mod Fields
 pub mod Connections
 pub mod Logins
@@ -15,6 +15,6 @@ pub mod Heads
 pub mod Advances
 pub mod Fronts
 pub mod Answers
-pub mod Kept
+pub mod FrontInside
 pub mod Runs
 pub mod MessageLaws

@@ -1,27 +1,22 @@
 -- Who the fields of a request say that it comes from: the field Authorization (RFC 9110, section 11.6.2)
 -- under the scheme Basic (RFC 7617).
-use Rattle.std.specs.Prelude.{ℕ, ⊤, IsTrue, Bool, ◌&&◌, List, [], ◌∷◌, map, codes, Option, None, Some, if◌then◌else◌}
-use Rattle.std.specs.List.{filter, position_from}
+use Rattle.std.specs.Prelude.{ℕ, ⊤, IsTrue, Bool, ◌&&◌, List, [], ◌∷◌, codes, Option, None, Some, if◌then◌else◌}
+use Rattle.std.specs.List.{position_from}
 use Rattle.std.specs.Str.{bytes_eq, str_eq_ignore_ascii_case}
 use Rattle.base64.specs.Engines.{standard}
 use Rattle.base64.specs.GeneralPurpose.{decoded_of}
 use Rattle.dsv_base.specs.declared.field.Field.{Field}
 use Rattle.dsv_base.specs.Lines.{cut_at}
 use Rattle.dsv_base.specs.Names.{is_user_name}
+use Rattle.dsv_base.specs.Options.{◌>>=◌}
 use Rattle.http_front.specs.declared.login.Login.{Login}
 use Rattle.http_front.specs.declared.login.Login.TheVariants.{Nobody, User, Wrong}
 use Rattle.http_front.specs.declared.user.User as user
-use Rattle.http_front.specs.Fields.{is_named}
-
--- the next step, where there is a value
-infixl 10 ◌>>=◌
-abbrev ◌>>=◌ : {A B : Type 0} → Option A → (A → Option B) → Option B
-None >>= f = None
-(Some x) >>= f = f x
+use Rattle.http_front.specs.Fields.{values_named}
 
 -- the values of the fields Authorization
 abbrev pub authorizations : List Field → List (List ℕ)
-authorizations fields = map (λ f. f.value) (filter (is_named (codes "authorization")) fields)
+authorizations fields = values_named (codes "authorization") fields
 
 -- what stands after the scheme, where that is Basic, in any case of letters
 abbrev pub after_basic : List ℕ × List ℕ → Option (List ℕ)
@@ -36,12 +31,12 @@ abbrev pub credentials_of : List ℕ → Option (List ℕ × List ℕ)
 credentials_of value = token_of value >>= decoded_of standard >>= cut_at 58
 
 -- the user has this name and this password
-abbrev pub is_user : List ℕ → List ℕ → user.User → Bool
-is_user name password u = bytes_eq name u.name && bytes_eq password u.password
+abbrev pub has_credentials : List ℕ → List ℕ → user.User → Bool
+has_credentials name password u = bytes_eq name u.name && bytes_eq password u.password
 
 -- the number of the user with this name and this password: its place, from 1
-abbrev pub number_of : List user.User → List ℕ → List ℕ → Option ℕ
-number_of users name password = position_from (is_user name password) 1 users
+abbrev pub user_number : List user.User → List ℕ → List ℕ → Option ℕ
+user_number users name password = position_from (has_credentials name password) 1 users
 
 -- the user of this name and number, if there is one
 abbrev pub as_user : List ℕ → Option ℕ → Login
@@ -51,7 +46,7 @@ as_user name (Some number) = User (record { number = number; name = name })
 -- the user that the credentials are of
 abbrev pub login_with : List user.User → Option (List ℕ × List ℕ) → Login
 login_with users None = Wrong
-login_with users (Some pair) = as_user pair.0 (number_of users pair.0 pair.1)
+login_with users (Some pair) = as_user pair.0 (user_number users pair.0 pair.1)
 
 -- the user that the one value is the credentials of
 abbrev pub login_by : List user.User → List (List ℕ) → Login

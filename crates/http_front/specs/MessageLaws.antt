@@ -1,7 +1,7 @@
 -- What holds of the bytes of every connection, whoever the users are and however the bytes come.
 use Rattle.std.specs.Prelude.{ℕ, ◌≡◌, ◌<◌, ◌≤◌, List, ◌++◌, length}
 use Rattle.http_front.specs.declared.phase.Phase.TheVariants.{Open}
-use Rattle.http_front.specs.declared.refusal.Refusal.{Refusal}
+use Rattle.http_front.specs.declared.message_fault.MessageFault.{MessageFault}
 use Rattle.http_front.specs.declared.request.Request.{Request}
 use Rattle.http_front.specs.declared.user.User.{User}
 use Rattle.http_front.specs.Fronts.{FrontState, new_front}
@@ -24,7 +24,7 @@ WholeStays = (users : List User) (number : ℕ) (bytes more : List ℕ) (request
 
 -- a refused message stays refused for the same cause, whatever bytes follow
 abbrev pub RefusedStays : Type 0
-RefusedStays = (users : List User) (number : ℕ) (bytes more : List ℕ) (why : Refusal)
+RefusedStays = (users : List User) (number : ℕ) (bytes more : List ℕ) (why : MessageFault)
     → IsFirst users number bytes (Refused why) → IsFirst users number (bytes ++ more) (Refused why)
 
 -- a whole request has at least one byte, lies within the bytes, and is no longer than a message may be

@@ -4,8 +4,8 @@ use Rattle.httparse.specs.Grammar.{RequestHead, ReadsRequest}
 use Rattle.dsv_base.specs.declared.field.Field.{Field}
 use Rattle.http_front.specs.declared.framing.Framing.{Framing}
 use Rattle.http_front.specs.declared.framing.Framing.TheVariants.{Sized, Chunked, TooLong, Unframed}
-use Rattle.http_front.specs.declared.refusal.Refusal.{Refusal}
-use Rattle.http_front.specs.declared.refusal.Refusal.TheVariants.{BadMessage, HeadTooLarge, BodyTooLarge}
+use Rattle.http_front.specs.declared.message_fault.MessageFault.{MessageFault}
+use Rattle.http_front.specs.declared.message_fault.MessageFault.TheVariants.{BadMessage, HeadTooLarge, BodyTooLarge}
 use Rattle.http_front.specs.declared.request.Request.{Request}
 use Rattle.http_front.specs.declared.user.User.{User}
 use Rattle.http_front.specs.Chunks.{IsBody}
@@ -95,7 +95,7 @@ pub record IsFirst (users : List User) (number : ℕ) (bytes : List ℕ) (outcom
 pub data End : Type 0 where
   LastGiven : End
   Left : List ℕ → End
-  RefusedAt : Refusal → ℕ → End
+  RefusedAt : MessageFault → ℕ → End
 
 -- the end where no further request comes
 abbrev pub EndSays : List User → ℕ → ℕ → List ℕ → End → Type 0

@@ -7,8 +7,8 @@ use Rattle.http_front.specs.declared.chunk_step.ChunksEnd.TheVariants.{Ended, Wa
 use Rattle.http_front.specs.declared.chunks.Chunks.{Chunks}
 use Rattle.http_front.specs.declared.data_end.DataEnd.{DataEnd}
 use Rattle.http_front.specs.declared.data_end.DataEnd.TheVariants.{Closed, Open, Wrong}
-use Rattle.http_front.specs.declared.place.Place.TheVariants.{Between}
-use Rattle.http_front.specs.declared.refusal.Refusal.TheVariants.{BadMessage}
+use Rattle.http_front.specs.declared.byte_place.BytePlace.TheVariants.{Between}
+use Rattle.http_front.specs.declared.message_fault.MessageFault.TheVariants.{BadMessage}
 use Rattle.http_front.specs.declared.size_line.SizeLine.TheVariants.{Line}
 use Rattle.http_front.specs.declared.stage.Stage.{Stage}
 use Rattle.http_front.specs.declared.stage.Stage.TheVariants.{AtLine, InData, InTrailers}
@@ -42,8 +42,9 @@ pub record IsReading (bytes body : List ℕ) (used : ℕ) (stage : Stage) : Type
   pub room : length body ≤ most_body_bytes
   pub stage_says : StageSays body (drop used bytes) stage
 
-abbrev pub Reads : List ℕ → Chunks → Type 0
-Reads bytes c = IsReading bytes c.body.items c.used c.stage
+-- the body and what was read of the next chunk are those of the bytes
+abbrev pub ReadsChunks : List ℕ → Chunks → Type 0
+ReadsChunks bytes c = IsReading bytes c.body.items c.used c.stage
 
 -- how much is left to do
 abbrev pub stage_steps : Stage → ℕ
@@ -51,16 +52,17 @@ stage_steps AtLine = 1
 stage_steps (InData n size) = 0
 stage_steps (InTrailers n scan) = 0
 
+-- a bound of the steps that are left: two for each byte, and one where a size line comes next
 abbrev pub steps_left : List ℕ → Chunks → ℕ
 steps_left bytes c = 2 * (length bytes - c.used) + stage_steps c.stage
 
 -- what the bytes came to
 abbrev pub ChunksSay : List ℕ → Chunks → ChunksEnd → Type 0
 ChunksSay bytes new (Ended n) = IsContent bytes (Whole new.body.items n)
-ChunksSay bytes new Waits = Reads bytes new × IsContent bytes Part
+ChunksSay bytes new Waits = ReadsChunks bytes new × IsContent bytes Part
 ChunksSay bytes new (Fails why) = IsContent bytes (Refused why)
 
 -- what a step says
 abbrev pub ChunkStepSays : List ℕ → Chunks → Chunks → ChunkStep → Type 0
-ChunkStepSays bytes old new Goes = Reads bytes new × (steps_left bytes new < steps_left bytes old)
+ChunkStepSays bytes old new Goes = ReadsChunks bytes new × (steps_left bytes new < steps_left bytes old)
 ChunkStepSays bytes old new (Ends end) = ChunksSay bytes new end

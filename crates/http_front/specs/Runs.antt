@@ -16,14 +16,15 @@ pub data Step : Type 0 where
   Fed : List ℕ → Step
   Asked : Next → Step
 
-abbrev pub StepSays : List User → FrontState → FrontState → Step → Type 0
-StepSays users old new (Fed piece) = new ≡ fed old piece
-StepSays users old new (Asked next) = NextSays users old new next
+-- the step leads from one state to the other
+abbrev pub CallSays : List User → FrontState → FrontState → Step → Type 0
+CallSays users old new (Fed piece) = new ≡ fed old piece
+CallSays users old new (Asked next) = NextSays users old new next
 
 -- the steps lead from one state to another
 abbrev pub Run : List User → List Step → FrontState → FrontState → Type 0
 Run users [] start end = start ≡ end
-Run users (step ∷ steps) start end = (next : FrontState) × StepSays users start next step × Run users steps next end
+Run users (step ∷ steps) start end = (next : FrontState) × CallSays users start next step × Run users steps next end
 
 -- all bytes that were fed
 abbrev pub fed_bytes : List Step → List ℕ
@@ -31,6 +32,7 @@ fed_bytes [] = []
 fed_bytes (Fed piece ∷ steps) = piece ++ fed_bytes steps
 fed_bytes (Asked next ∷ steps) = fed_bytes steps
 
+-- the request that an answer gives, in front of these
 abbrev pub with_request : Next → List Request → List Request
 with_request (nexts.Request r) requests = r ∷ requests
 with_request nexts.More requests = requests

@@ -3,12 +3,13 @@
 use Rattle.std.specs.Prelude.{ℕ, ◌+◌, ◌-◌, Bool, false, ◌&&◌, List, [], ◌∷◌, length, drop, Option, None, Some, ◌==◌, nat_lt, if◌then◌else◌}
 use Rattle.std.specs.List.{count_by}
 use Rattle.http_front.specs.Limits.{most_head_bytes}
-use Rattle.http_front.specs.declared.place.Place.{Place}
-use Rattle.http_front.specs.declared.place.Place.TheVariants.{Before, Between, Inside}
-use Rattle.http_front.specs.declared.section.Section.{Section}
+use Rattle.http_front.specs.declared.byte_place.BytePlace.{BytePlace}
+use Rattle.http_front.specs.declared.byte_place.BytePlace.TheVariants.{Before, Between, Inside}
+use Rattle.http_front.specs.declared.line_section.LineSection.{LineSection}
 
 -- ---- line ends
 
+-- the bytes begin with LF
 abbrev pub begins_with_line_feed : List ℕ → Bool
 begins_with_line_feed [] = false
 begins_with_line_feed (b ∷ bytes) = b == 10
@@ -18,6 +19,7 @@ abbrev pub line_end_length : List ℕ → ℕ
 line_end_length [] = 0
 line_end_length (b ∷ bytes) = if b == 10 then 1 else (if (b == 13) && begins_with_line_feed bytes then 2 else 0)
 
+-- the bytes begin with LF, or with CR and LF
 abbrev pub begins_with_line_end : List ℕ → Bool
 begins_with_line_end bytes = nat_lt 0 (line_end_length bytes)
 
@@ -40,19 +42,19 @@ is_idle bytes = nat_lt (length bytes) most_head_bytes && blank_length bytes == l
 
 -- A section is seen as the bytes in front of its empty line and the bytes of that line: 0 where it hasn't come. A line that
 -- isn't ended counts with one byte more, since it needs an LF; a CR alone may become the empty line, and doesn't count.
-abbrev pub section_end : ℕ → Section
+abbrev pub section_end : ℕ → LineSection
 section_end n = record { lines = 0; closing = n }
 
 -- one byte more in front
-abbrev pub one_more : Section → Section
+abbrev pub one_more : LineSection → LineSection
 one_more s = record { lines = s.lines + 1; closing = s.closing }
 
 -- where a line goes on after a byte of it
-abbrev pub place_after : ℕ → Place
+abbrev pub place_after : ℕ → BytePlace
 place_after b = if b == 10 then Between else Inside
 
 -- the section of bytes that stand in a line, at a line's beginning, or before a head, whose line ends in front are part of it
-abbrev pub section_from : Place → List ℕ → Section
+abbrev pub section_from : BytePlace → List ℕ → LineSection
 section_from Inside [] = record { lines = 1; closing = 0 }
 section_from Inside (b ∷ bytes) = one_more (section_from (place_after b) bytes)
 section_from Between [] = section_end 0
@@ -63,7 +65,7 @@ section_from Before (b ∷ bytes) = if begins_with_line_end (b ∷ bytes) then o
 -- ---- heads
 
 -- where a section ends, if it does
-abbrev pub section_length : Section → Option ℕ
+abbrev pub section_length : LineSection → Option ℕ
 section_length s = if nat_lt 0 s.closing then Some (s.lines + s.closing) else None
 
 -- the bytes of the head at the front, where it is whole: the line ends in front, then all up to the first LF that is
@@ -71,6 +73,7 @@ section_length s = if nat_lt 0 s.closing then Some (s.lines + s.closing) else No
 unfoldable pub head_length : List ℕ → Option ℕ
 head_length bytes = section_length (section_from Before bytes)
 
+-- the byte is LF
 abbrev pub is_line_feed_byte : ℕ → Bool
 is_line_feed_byte b = b == 10
 

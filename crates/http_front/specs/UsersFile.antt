@@ -35,6 +35,7 @@ user_lines number lines = filter (λ line. not (is_skipped line.1)) (enumerate_f
 
 -- ---- all lines
 
+-- the names of the users, in their order
 abbrev pub names : List User → List (List ℕ)
 names users = map (λ u. u.name) users
 
@@ -73,9 +74,10 @@ unless_refused users (Some number) = Err (BadUsers number)
 unfoldable pub users_of : List ℕ → Result (List User) UsersFault
 users_of bytes = unless_refused (all_users (user_lines 1 (file_lines bytes))) (first_refused (user_lines 1 (file_lines bytes)))
 
-abbrev pub is_no_memory : UsersFault → Bool
-is_no_memory (BadUsers number) = false
-is_no_memory NoMemory = true
+-- the fault is free: want of memory
+abbrev pub is_free_users_fault : UsersFault → Bool
+is_free_users_fault (BadUsers number) = false
+is_free_users_fault NoMemory = true
 
 -- the line is refused with this number, or memory is wanted
 abbrev pub SaysRefused : ℕ → Bool → UsersFault → Type 0

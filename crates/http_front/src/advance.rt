@@ -1,6 +1,6 @@
 use crate::chunks::Chunks;
 use crate::head::Head;
-use crate::refusal::Refusal;
+use crate::message_fault::MessageFault;
 use crate::scan::Scan;
 use dsv_base::Bytes;
 
@@ -23,5 +23,5 @@ pub(crate) enum Advance {
     /// More bytes are needed.
     Needs(Progress),
     /// The message is refused.
-    Rejects(Refusal),
+    Rejects(MessageFault),
 }

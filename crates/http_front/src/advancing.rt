@@ -1,7 +1,7 @@
 ghost use Rattle.std.specs.Prelude.{◌≡◌, IfOk, take, drop, Some};
 ghost use Rattle.http_front.specs.Advances.{IsProgress, AdvanceSays, HasHead, HasFramed};
 ghost use Rattle.http_front.specs.Limits.{most_encoded_bytes, most_head_bytes};
-ghost use Rattle.http_front.specs.Readings.{Reads};
+ghost use Rattle.http_front.specs.Readings.{ReadsChunks};
 ghost use Rattle.http_front.specs.Sections.{head_length};
 ghost use Rattle.http_front.specs.declared.advance.Progress.TheVariants.{InHead};
 ghost use Rattle.http_front.specs.declared.framing.Framing.TheVariants.{Sized, Chunked};
@@ -13,7 +13,7 @@ use crate::framing::Framing;
 use crate::framings::framing;
 use crate::head::Head;
 use crate::heads::{MOST_HEADER_LINES, read_head};
-use crate::refusal::Refusal;
+use crate::message_fault::MessageFault;
 use crate::scan::{Scan, header_lines, scan_section};
 use crate::slices::{front_bytes, rest_from};
 use dsv_base::{Bytes, NoMemory};
@@ -48,7 +48,7 @@ fn advance_head(alloc: Global, bytes: &[u8], scan: Scan) -> Result<Advance, NoMe
         return take_head(alloc, bytes, len);
     }
     if bytes.len() >= MOST_HEAD_BYTES {
-        return Ok(Advance::Rejects(Refusal::HeadTooLarge));
+        return Ok(Advance::Rejects(MessageFault::HeadTooLarge));
     }
     Ok(Advance::Needs(Progress::InHead(Scan {
         at: scan.at + scanned.scan.at,
@@ -63,11 +63,11 @@ fn take_head(alloc: Global, bytes: &[u8], len: usize) -> Result<Advance, NoMemor
 {
     let text = front_bytes(bytes, len);
     if header_lines(text) > MOST_HEADER_LINES {
-        return Ok(Advance::Rejects(Refusal::HeadTooLarge));
+        return Ok(Advance::Rejects(MessageFault::HeadTooLarge));
     }
     match read_head(alloc, text)? {
         Some(head) => begin_body(alloc, bytes, head),
-        None => Ok(Advance::Rejects(Refusal::BadMessage)),
+        None => Ok(Advance::Rejects(MessageFault::BadMessage)),
     }
 }
 
@@ -79,8 +79,8 @@ fn begin_body(alloc: Global, bytes: &[u8], head: Head) -> Result<Advance, NoMemo
     match framing(head.fields.get()) {
         Framing::Sized(size) => advance_body(alloc, bytes, head, size),
         Framing::Chunked => advance_chunks(bytes, head, Chunks::new(alloc)),
-        Framing::TooLong => Ok(Advance::Rejects(Refusal::BodyTooLarge)),
-        Framing::Unframed => Ok(Advance::Rejects(Refusal::BadMessage)),
+        Framing::TooLong => Ok(Advance::Rejects(MessageFault::BodyTooLarge)),
+        Framing::Unframed => Ok(Advance::Rejects(MessageFault::BadMessage)),
     }
 }
 
@@ -101,7 +101,7 @@ fn advance_body(alloc: Global, bytes: &[u8], head: Head, size: usize) -> Result<
 /// Reads a body by chunks on.
 fn advance_chunks(bytes: &[u8], head: Head, chunks: Chunks) -> Result<Advance, NoMemory>
     requires framed { HasFramed bytes.now head Chunked }
-    requires reads { Reads (take most_encoded_bytes (drop head.len bytes.now)) chunks }
+    requires reads { ReadsChunks (take most_encoded_bytes (drop head.len bytes.now)) chunks }
     ensures { IfOk result (AdvanceSays bytes.now) }
 {
     let mut chunks = chunks;
@@ -114,7 +114,7 @@ fn advance_chunks(bytes: &[u8], head: Head, chunks: Chunks) -> Result<Advance, N
         ChunksEnd::Fails(why) => Ok(Advance::Rejects(why)),
         ChunksEnd::Waits => {
             if after.len() > MOST_ENCODED_BYTES {
-                return Ok(Advance::Rejects(Refusal::BodyTooLarge));
+                return Ok(Advance::Rejects(MessageFault::BodyTooLarge));
             }
             Ok(Advance::Needs(Progress::InChunks(head, chunks)))
         }

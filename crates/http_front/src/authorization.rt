@@ -45,7 +45,7 @@ fn login_with(alloc: Global, users: &Users, value: &[u8]) -> Result<Login, NoMem
     let Some((name, password)) = cut_at(pair.get(), b':') else {
         return Ok(Login::Wrong);
     };
-    match users.number_of(name, password) {
+    match users.user_number(name, password) {
         None => Ok(Login::Wrong),
         Some(number) => Ok(Login::User(Person {
             number,

@@ -1,4 +1,4 @@
-use crate::refusal::Refusal;
+use crate::message_fault::MessageFault;
 
 /// What the bytes of a body by chunks came to.
 #[derive(Clone, Copy, Debug)]
@@ -8,7 +8,7 @@ pub(crate) enum ChunksEnd {
     /// More bytes are needed.
     Waits,
     /// The body is refused.
-    Fails(Refusal),
+    Fails(MessageFault),
 }
 
 /// What came of one step in a body by chunks.

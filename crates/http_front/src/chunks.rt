@@ -1,14 +1,14 @@
 ghost use Rattle.std.specs.Prelude.{◌≡◌, ◌≤◌, ◌<◌, [], OnOk, length, drop, IfOk};
-ghost use Rattle.http_front.specs.Readings.{Reads, ChunkStepSays, ChunksSay};
+ghost use Rattle.http_front.specs.Readings.{ReadsChunks, ChunkStepSays, ChunksSay};
 ghost use Rattle.http_front.specs.Chunks.{IsSizeLine};
 ghost use Rattle.http_front.specs.declared.size_line.SizeLine.TheVariants.{Line};
 ghost use Rattle.http_front.specs.declared.stage.Stage.TheVariants.{AtLine, InData, InTrailers};
 
+use crate::byte_place::BytePlace;
 use crate::chunk_step::{ChunkStep, ChunksEnd};
 use crate::data_end::DataEnd;
 use crate::framings::MOST_BODY_BYTES;
-use crate::place::Place;
-use crate::refusal::Refusal;
+use crate::message_fault::MessageFault;
 use crate::scan::{Scan, scan_section};
 use crate::size_line::SizeLine;
 use crate::size_lines::{data_end, size_line};
@@ -44,7 +44,7 @@ impl Chunks {
 
     /// Reads one thing more of the bytes. After want of memory the body is of no use.
     pub(crate) fn step(&mut self, bytes: &[u8]) -> Result<ChunkStep, NoMemory>
-        requires { Reads bytes.now self.old }
+        requires { ReadsChunks bytes.now self.old }
         ensures { IfOk result (ChunkStepSays bytes.now self.old self.new) }
     {
         match self.stage {
@@ -57,7 +57,7 @@ impl Chunks {
     /// Reads the bytes to the end of the body, or as far as they go. After want of memory the body
     /// is of no use.
     pub(crate) fn read(&mut self, bytes: &[u8]) -> Result<ChunksEnd, NoMemory>
-        requires { Reads bytes.now self.old }
+        requires { ReadsChunks bytes.now self.old }
         ensures { IfOk result (ChunksSay bytes.now self.new) }
     {
         'steps: loop {
@@ -70,19 +70,19 @@ impl Chunks {
     }
 
     fn read_line(&mut self, bytes: &[u8]) -> ChunkStep
-        requires reads { Reads bytes.now self.old }
+        requires reads { ReadsChunks bytes.now self.old }
         requires stage { self.old.stage ≡ AtLine }
         ensures { ChunkStepSays bytes.now self.old self.new result }
     {
         match size_line(rest_from(bytes, self.used)) {
             SizeLine::Line(len, size) => self.begin_chunk(bytes, len, size),
             SizeLine::Unended => ChunkStep::Ends(ChunksEnd::Waits),
-            SizeLine::Unreadable => ChunkStep::Ends(ChunksEnd::Fails(Refusal::BadMessage)),
+            SizeLine::Unreadable => ChunkStep::Ends(ChunksEnd::Fails(MessageFault::BadMessage)),
         }
     }
 
     fn begin_chunk(&mut self, bytes: &[u8], len: usize, size: u64) -> ChunkStep
-        requires reads { Reads bytes.now self.old }
+        requires reads { ReadsChunks bytes.now self.old }
         requires stage { self.old.stage ≡ AtLine }
         requires line { IsSizeLine (drop self.old.used bytes.now) (Line len size) }
         ensures { ChunkStepSays bytes.now self.old self.new result }
@@ -90,20 +90,20 @@ impl Chunks {
         if size == 0 {
             let scan = Scan {
                 at: 0,
-                place: Place::Between,
+                place: BytePlace::Between,
             };
             self.stage = Stage::InTrailers(len, scan);
             return ChunkStep::Goes;
         }
         if size > (MOST_BODY_BYTES - self.body.len()) as u64 {
-            return ChunkStep::Ends(ChunksEnd::Fails(Refusal::BodyTooLarge));
+            return ChunkStep::Ends(ChunksEnd::Fails(MessageFault::BodyTooLarge));
         }
         self.stage = Stage::InData(len, size as usize);
         ChunkStep::Goes
     }
 
     fn take_data(&mut self, bytes: &[u8], len: usize, size: usize) -> Result<ChunkStep, NoMemory>
-        requires reads { Reads bytes.now self.old }
+        requires reads { ReadsChunks bytes.now self.old }
         requires stage { self.old.stage ≡ InData len size }
         ensures { IfOk result (ChunkStepSays bytes.now self.old self.new) }
     {
@@ -117,12 +117,12 @@ impl Chunks {
                 Ok(ChunkStep::Goes)
             }
             DataEnd::Open => Ok(ChunkStep::Ends(ChunksEnd::Waits)),
-            DataEnd::Wrong => Ok(ChunkStep::Ends(ChunksEnd::Fails(Refusal::BadMessage))),
+            DataEnd::Wrong => Ok(ChunkStep::Ends(ChunksEnd::Fails(MessageFault::BadMessage))),
         }
     }
 
     fn read_trailers(&mut self, bytes: &[u8], len: usize, scan: Scan) -> ChunkStep
-        requires reads { Reads bytes.now self.old }
+        requires reads { ReadsChunks bytes.now self.old }
         requires stage { self.old.stage ≡ InTrailers len scan }
         ensures { ChunkStepSays bytes.now self.old self.new result }
     {
@@ -130,7 +130,7 @@ impl Chunks {
         let scanned = scan_section(rest_from(bytes, start + scan.at), scan.place);
         let lines = scan.at + scanned.section.lines;
         if lines > MOST_TRAILER_BYTES {
-            return ChunkStep::Ends(ChunksEnd::Fails(Refusal::HeadTooLarge));
+            return ChunkStep::Ends(ChunksEnd::Fails(MessageFault::HeadTooLarge));
         }
         if scanned.section.closing > 0 {
             let used = start + lines + scanned.section.closing;

@@ -2,7 +2,7 @@ ghost use Rattle.std.specs.Prelude.{◌≡◌, ◌≤◌, ◌+◌, ℕ, List, le
 ghost use Rattle.http_front.specs.Advances.{IsAlways, request_with};
 ghost use Rattle.http_front.specs.Answers.{NextSays, ComesNamed, phase_after, refusal_next};
 ghost use Rattle.http_front.specs.Fronts.{new_front, fed, given, stopped};
-ghost use Rattle.http_front.specs.Kept.{IsFew, unread};
+ghost use Rattle.http_front.specs.FrontInside.{IsFew, unread};
 ghost use Rattle.http_front.specs.Logins.{IsNamed};
 ghost use Rattle.http_front.specs.Limits.{most_message_bytes};
 ghost use Rattle.http_front.specs.Messages.{is_last_of};
@@ -14,12 +14,12 @@ ghost use Rattle.http_front.specs.declared.user.User.{User};
 use crate::advance::{Advance, Progress};
 use crate::advancing::advance;
 use crate::authorization::login_of;
+use crate::byte_place::BytePlace;
 use crate::connection::is_last;
 use crate::head::Head;
+use crate::message_fault::MessageFault;
 use crate::next::Next;
 use crate::phase::Phase;
-use crate::place::Place;
-use crate::refusal::Refusal;
 use crate::request::Request;
 use crate::scan::{Scan, is_idle};
 use crate::slices::{drop_front, rest_from};
@@ -49,13 +49,13 @@ pub struct Front {
 impl Model for Front {
     ghost use Rattle.std.specs.Prelude.{drop};
     ghost use Rattle.http_front.specs.Fronts.{FrontState};
-    ghost use Rattle.http_front.specs.Kept.{IsKept};
+    ghost use Rattle.http_front.specs.FrontInside.{FrontHolds};
 
     ghost Value = { FrontState };
 
     ghost view = { λ f. record { number = f.number; at = f.at; rest = drop f.start f.bytes.items; phase = f.phase } };
 
-    ghost invariant = { λ f. IsKept f.number f.at f.bytes.items f.start f.phase f.progress };
+    ghost invariant = { λ f. FrontHolds f.number f.at f.bytes.items f.start f.phase f.progress };
 }
 
 impl Front {
@@ -89,9 +89,9 @@ impl Front {
     /// The request at the front, or what its bytes are else.
     ///
     /// A request is taken out of the front. Who it comes from is said by its field Authorization
-    /// and `users` (RFC 7617), whose names are of the users grammar. It is the connection's last where it is of HTTP/1.0, has `close`
-    /// among the words of its Connection fields, or is the 1,000,000th: then all later bytes are
-    /// dropped, and each later answer is [`Next::More`].
+    /// and `users` (RFC 7617), whose names are of the users grammar. It is the connection's last
+    /// where it is of HTTP/1.0, has `close` among the words of its Connection fields, or is the
+    /// 1,000,000th: then all later bytes are dropped, and each later answer is [`Next::More`].
     ///
     /// [`Next::More`] comes exactly where the rest is a part of a message that no limit and no
     /// rule of the grammar refuses yet, or where the last request was given. A refusal comes as
@@ -174,7 +174,7 @@ impl Front {
     }
 
     /// Refuses the message at the front.
-    fn stop(&mut self, why: Refusal) -> Next
+    fn stop(&mut self, why: MessageFault) -> Next
         requires open { self.old.phase ≡ Open }
         requires first { IsAlways self.old.rest (λ users number. Refused why) }
         ensures says { (users : List User) → NextSays users self.old self.new result }
@@ -191,18 +191,18 @@ fn unread() -> Progress
 {
     Progress::InHead(Scan {
         at: 0,
-        place: Place::Before,
+        place: BytePlace::Before,
     })
 }
 
-fn refusal_next(why: Refusal, at: u64) -> Next
+fn refusal_next(why: MessageFault, at: u64) -> Next
     ensures value { result ≡ refusal_next why at }
     ensures named { ComesNamed result }
 {
     match why {
-        Refusal::BadMessage => Next::BadMessage { at },
-        Refusal::HeadTooLarge => Next::HeadTooLarge,
-        Refusal::BodyTooLarge => Next::BodyTooLarge,
+        MessageFault::BadMessage => Next::BadMessage { at },
+        MessageFault::HeadTooLarge => Next::HeadTooLarge,
+        MessageFault::BodyTooLarge => Next::BodyTooLarge,
     }
 }
 

@@ -1,4 +1,4 @@
-use crate::refusal::Refusal;
+use crate::message_fault::MessageFault;
 
 /// What a connection still gives.
 #[derive(Clone, Copy, Debug)]
@@ -8,5 +8,5 @@ pub(crate) enum Phase {
     /// The last request was given.
     Finished,
     /// A message was refused.
-    Stopped(Refusal),
+    Stopped(MessageFault),
 }

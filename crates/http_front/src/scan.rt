@@ -1,32 +1,32 @@
 ghost use Rattle.std.specs.Prelude.{◌≡◌, ◌≤◌, ◌<◌, ◌+◌, length, []};
 ghost use Rattle.std.specs.List.{count_by};
-ghost use Rattle.http_front.specs.declared.place.Place.TheVariants.{Before, Between, Inside};
+ghost use Rattle.http_front.specs.declared.byte_place.BytePlace.TheVariants.{Before, Between, Inside};
 ghost use Rattle.http_front.specs.Sections.{section_from, line_end_length, begins_with_line_feed, is_return_alone, blank_length, is_idle, header_lines, is_line_feed_byte};
 ghost use Rattle.http_front.specs.Scans.{ScanStepSays, IsScanned};
 
 use crate::advancing::MOST_HEAD_BYTES;
-use crate::place::Place;
-use crate::section::Section;
+use crate::byte_place::BytePlace;
+use crate::line_section::LineSection;
 
 /// How far a section was read: the next byte, and where that stands.
 #[derive(Clone, Copy, Debug)]
 pub(crate) struct Scan {
     pub(crate) at: usize,
-    pub(crate) place: Place,
+    pub(crate) place: BytePlace,
 }
 
 /// A section, and how far it was read.
 #[derive(Clone, Copy, Debug)]
 pub(crate) struct Scanned {
     pub(crate) scan: Scan,
-    pub(crate) section: Section,
+    pub(crate) section: LineSection,
 }
 
 /// What one byte of a section says.
 #[derive(Clone, Copy, Debug)]
 enum ScanStep {
     /// It is of a line, and the next byte stands there.
-    Goes(Place),
+    Goes(BytePlace),
     /// A byte more is needed.
     Stops,
     /// The empty line begins, which has so many bytes.
@@ -34,7 +34,7 @@ enum ScanStep {
 }
 
 /// Reads the section of which these are the bytes from such a place on.
-pub(crate) fn scan_section(bytes: &[u8], first: Place) -> Scanned
+pub(crate) fn scan_section(bytes: &[u8], first: BytePlace) -> Scanned
     ensures reached { IsScanned first bytes.now result.scan }
     ensures section { section_from first bytes.now ≡ result.section }
     ensures within { result.section.lines + result.section.closing ≤ length bytes.now + 1 }
@@ -54,36 +54,36 @@ pub(crate) fn scan_section(bytes: &[u8], first: Place) -> Scanned
     scan_to(at, place, at + open_bytes(place), 0)
 }
 
-fn scan_to(at: usize, place: Place, lines: usize, closing: usize) -> Scanned
+fn scan_to(at: usize, place: BytePlace, lines: usize, closing: usize) -> Scanned
     ensures scan { result.scan ≡ record { at = at; place = place } }
     ensures section { result.section ≡ record { lines = lines; closing = closing } }
 {
     Scanned {
         scan: Scan { at, place },
-        section: Section { lines, closing },
+        section: LineSection { lines, closing },
     }
 }
 
 /// The byte that a line which isn't ended needs more.
-fn open_bytes(place: Place) -> usize
+fn open_bytes(place: BytePlace) -> usize
     ensures value { section_from place [] ≡ record { lines = result; closing = 0 } }
     ensures few { result ≤ 1 }
 {
     match place {
-        Place::Before => 0,
-        Place::Between => 0,
-        Place::Inside => 1,
+        BytePlace::Before => 0,
+        BytePlace::Between => 0,
+        BytePlace::Inside => 1,
     }
 }
 
-fn scan_step(bytes: &[u8], place: Place) -> ScanStep
+fn scan_step(bytes: &[u8], place: BytePlace) -> ScanStep
     requires { 0 < length bytes.now }
     ensures { ScanStepSays place bytes.now result }
 {
     match place {
-        Place::Inside => step_inside(bytes),
-        Place::Between => step_between(bytes),
-        Place::Before => step_before(bytes),
+        BytePlace::Inside => step_inside(bytes),
+        BytePlace::Between => step_between(bytes),
+        BytePlace::Before => step_before(bytes),
     }
 }
 
@@ -92,9 +92,9 @@ fn step_inside(bytes: &[u8]) -> ScanStep
     ensures { ScanStepSays Inside bytes.now result }
 {
     if bytes[0] == b'\n' {
-        ScanStep::Goes(Place::Between)
+        ScanStep::Goes(BytePlace::Between)
     } else {
-        ScanStep::Goes(Place::Inside)
+        ScanStep::Goes(BytePlace::Inside)
     }
 }
 
@@ -109,7 +109,7 @@ fn step_between(bytes: &[u8]) -> ScanStep
     if is_return_alone(bytes) {
         return ScanStep::Stops;
     }
-    ScanStep::Goes(Place::Inside)
+    ScanStep::Goes(BytePlace::Inside)
 }
 
 fn step_before(bytes: &[u8]) -> ScanStep
@@ -117,12 +117,12 @@ fn step_before(bytes: &[u8]) -> ScanStep
     ensures { ScanStepSays Before bytes.now result }
 {
     if line_end_length(bytes) > 0 {
-        return ScanStep::Goes(Place::Before);
+        return ScanStep::Goes(BytePlace::Before);
     }
     if is_return_alone(bytes) {
         return ScanStep::Stops;
     }
-    ScanStep::Goes(Place::Inside)
+    ScanStep::Goes(BytePlace::Inside)
 }
 
 fn line_end_length(bytes: &[u8]) -> usize

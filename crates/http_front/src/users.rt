@@ -2,7 +2,7 @@ ghost use Rattle.std.specs.Prelude.{◌≡◌, ◌<◌, ◌∷◌, ◌++◌, [],
 ghost use Rattle.std.specs.List.{list_any, position_from};
 ghost use Rattle.std.specs.Str.{bytes_eq};
 ghost use Rattle.dsv_base.specs.Names.{is_user_name};
-ghost use Rattle.http_front.specs.Logins.{number_of};
+ghost use Rattle.http_front.specs.Logins.{user_number};
 ghost use Rattle.http_front.specs.UsersFile.{most_users, names, AreNamed};
 
 use crate::user::User;
@@ -15,7 +15,8 @@ use std::marker::Model;
 pub(crate) const MOST_USERS: usize = 10_000;
 
 /// The users who may log in. Contracts see them as the list of the users, in the file's order.
-/// Each name is what [`dsv_base::is_user_name`] takes, and no two are the same. They have no Debug, which would show passwords.
+/// Each name is what [`dsv_base::is_user_name`] takes, and no two are the same. They have no Debug,
+/// which would show passwords.
 #[derive(Drop)]
 pub struct Users {
     users: Vec<User>,
@@ -25,7 +26,7 @@ pub struct Users {
 impl Model for Users {
     ghost use Rattle.std.specs.Prelude.{List};
     ghost use Rattle.http_front.specs.declared.user.User.{User};
-    ghost use Rattle.http_front.specs.Places.{IsIndexed};
+    ghost use Rattle.http_front.specs.UserPlaces.{IsIndexed};
 
     ghost Value = { List User };
 
@@ -91,8 +92,8 @@ impl Users {
     }
 
     /// The number of the user with this name and this password: the place in the file, from 1.
-    pub(crate) fn number_of(&self, name: &[u8], password: &[u8]) -> Option<u32>
-        ensures value { result ≡ number_of self.now name.now password.now }
+    pub(crate) fn user_number(&self, name: &[u8], password: &[u8]) -> Option<u32>
+        ensures value { result ≡ user_number self.now name.now password.now }
         ensures named { IfSome result (λ number. IsTrue (is_user_name name.now)) }
     {
         let Some(place) = self.place(name) else {

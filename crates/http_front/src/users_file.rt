@@ -1,7 +1,7 @@
 ghost use Rattle.std.specs.Prelude.{◌≡◌, ◌≤◌, ◌++◌, false, true, length, IfOk, IfErr, IfSome, IsTrue, OnOk, option_to_list};
 ghost use Rattle.dsv_base.specs.Gives.{Gives};
 ghost use Rattle.dsv_base.specs.Names.{is_user_name};
-ghost use Rattle.http_front.specs.UsersFile.{user_of_line, is_refused, users_of, is_no_memory, SaysRefused};
+ghost use Rattle.http_front.specs.UsersFile.{user_of_line, is_refused, users_of, is_free_users_fault, SaysRefused};
 
 use crate::user::User;
 use crate::users::{MOST_USERS, Users};
@@ -62,7 +62,7 @@ fn with_line(alloc: Global, users: Users, number: u32, line: &[u8]) -> Result<Us
 #[tactic(auto, unfolding(crate::specs::UsersFile::users_of))]
 pub fn read_users(alloc: Global, bytes: &[u8]) -> Result<Users, UsersFault>
     requires { length bytes.now ≤ 268435456 }
-    ensures { Gives is_no_memory result (users_of bytes.now) }
+    ensures { Gives is_free_users_fault result (users_of bytes.now) }
 {
     let mut users = Users::none(alloc);
     let mut number = 1u32;

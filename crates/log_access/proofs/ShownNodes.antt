@@ -7,9 +7,9 @@ use Rattle.std.specs.FinMap.Entries.{find-where_key}
 use Rattle.std.specs.Ordering.{nat_cmp, eq_by_cmp}
 use Rattle.std.specs.Cmp.Lexicographic.{slice_cmp}
 use Rattle.std.proofs.lemmas.Map.Lookups.{exact_bytes}
-use Rattle.rev_trees.specs.declared.node.Node.{Node}
-use Rattle.rev_trees.specs.Trees.{TreeNode, Tree, at}
-use Rattle.rev_trees.specs.Forests.{Numbered, ForestRevision, Forest, no_revision, tree_of, without_numbers, repository_of, places_at, place_at, id_at, node_at}
+use Rattle.rev_nodes.specs.declared.node.Node.{Node}
+use Rattle.rev_nodes.specs.Trees.{TreeNode, Tree, at}
+use Rattle.rev_nodes.specs.Forests.{Numbered, ForestRevision, Forest, no_revision, tree_of, without_numbers, repository_of, places_at, place_at, id_at, node_at}
 use Rattle.authz_file.specs.declared.rule.Rule.{Rule}
 use Rattle.authz_check.specs.Access.{can_read}
 use Rattle.log_access.specs.Shown.{shown_node, shown_nodes, shown_revision, shown_nothing, shown_of, nodes_in, node_in}

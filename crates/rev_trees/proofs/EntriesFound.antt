@@ -13,11 +13,11 @@ use Rattle.std.specs.FinMap.Entries.{is_sorted}
 use Rattle.std.proofs.lemmas.Map.Lookups.{exact_bytes}
 use Rattle.std.proofs.lemmas.List.Elements.{All-from_get_or, All-get_or}
 use Rattle.dsv_base.specs.Paths.{is_path}
-use Rattle.rev_trees.specs.declared.entry.Entry.{Entry}
+use Rattle.rev_nodes.specs.declared.entry.Entry.{Entry}
 use Rattle.rev_trees.specs.declared.place.Place.{Place}
 use Rattle.rev_trees.specs.declared.revision.FlatRevision.{FlatRevision}
-use Rattle.rev_trees.specs.Forests.{Numbered, Forest, places_at, place_at, id_at, node_at, IsId}
-use Rattle.rev_trees.specs.Entries.{entries_in, AreEntriesOf, IsSoundPlace, AreAlike, IsSound}
+use Rattle.rev_nodes.specs.Forests.{Numbered, Forest, places_at, place_at, id_at, node_at, IsId}
+use Rattle.rev_nodes.specs.Entries.{entries_in, AreEntriesOf, IsSoundPlace, AreAlike, IsSound}
 use Rattle.rev_trees.specs.Flat.{node_of}
 use Rattle.rev_trees.specs.Numbers.{numbered, numbered_from}
 use Rattle.rev_trees.specs.Listed.{has_path}
@@ -25,7 +25,7 @@ use Rattle.rev_trees.specs.Kept.{forest_of, places_in, lists_in, AreKept}
 use Rattle.rev_trees.proofs.Numbering.{places-are, below-of, sorted-numbered}
 use Rattle.rev_trees.proofs.Listing.{length-numbered, numbered-at}
 use Rattle.rev_trees.proofs.PlacesFound.{nowhere}
-use Rattle.rev_trees.proofs.Search.{find_here}
+use Rattle.rev_nodes.proofs.Search.{find_here}
 
 equal_from : (r : Ordering) → is_eq r ≡ true → r ≡ Equal
 equal_from Less e = absurd (cc)

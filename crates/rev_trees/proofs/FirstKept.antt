@@ -3,16 +3,16 @@ use Rattle.std.proofs.Common.{◌≡◌, ℕ, zero, suc, ◌<◌, Bool, true, fa
 use Rattle.std.specs.Prelude.{is_some}
 use Rattle.std.specs.Ordering.{nat_cmp, eq_by_cmp}
 use Rattle.std.specs.Cmp.Lexicographic.{slice_cmp}
-use Rattle.rev_trees.specs.Trees.{at, is_dir}
+use Rattle.rev_nodes.specs.Trees.{at, is_dir}
 use Rattle.rev_trees.specs.Flat.{node_of, tree_in}
-use Rattle.rev_trees.specs.Formed.{has_ordered_props, IsFormed}
-use Rattle.rev_trees.proofs.Forming.{tied}
+use Rattle.rev_nodes.specs.Formed.{has_ordered_props, IsFormed}
+use Rattle.rev_nodes.proofs.Forming.{tied}
 use Rattle.dsv_base.specs.Paths.{parent_text, is_path, root_text}
-use Rattle.rev_trees.specs.declared.commit.Commit.{Commit}
-use Rattle.rev_trees.specs.declared.entry.Entry.{Entry}
+use Rattle.rev_nodes.specs.declared.commit.Commit.{Commit}
+use Rattle.rev_nodes.specs.declared.entry.Entry.{Entry}
 use Rattle.rev_trees.specs.declared.place.Place.{Place}
 use Rattle.rev_trees.specs.declared.revision.FlatRevision.{FlatRevision}
-use Rattle.rev_trees.specs.Entries.{entries_in}
+use Rattle.rev_nodes.specs.Entries.{entries_in}
 use Rattle.rev_trees.specs.Numbers.{numbered_from}
 use Rattle.rev_trees.specs.Listed.{has_path, IsListed}
 use Rattle.rev_trees.specs.Kept.{root_place, places_in, lists_in, IsFlat, AreKept}

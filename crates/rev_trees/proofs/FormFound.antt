@@ -10,16 +10,16 @@ use Rattle.std.specs.Str.{bytes_eq}
 use Rattle.std.proofs.lemmas.Bool.{cases_lt}
 use Rattle.std.proofs.lemmas.List.Elements.{All-head, All-tail}
 use Rattle.dsv_base.specs.Paths.{parent_text}
-use Rattle.rev_trees.specs.declared.entry.Entry.{Entry}
-use Rattle.rev_trees.specs.declared.kind.Kind.TheVariants.{File}
-use Rattle.rev_trees.specs.declared.node.Node.{Node}
+use Rattle.rev_nodes.specs.declared.entry.Entry.{Entry}
+use Rattle.rev_nodes.specs.declared.kind.Kind.TheVariants.{File}
+use Rattle.rev_nodes.specs.declared.node.Node.{Node}
 use Rattle.rev_trees.specs.declared.revision.FlatRevision.{FlatRevision}
-use Rattle.rev_trees.specs.Trees.{at, is_dir, is_dir_kind}
-use Rattle.rev_trees.specs.Forests.{Numbered, ForestRevision, Forest, no_revision, tree_of, places_at, place_at, id_at}
-use Rattle.rev_trees.specs.Entries.{is_child, entry_in, entries_in, AreEntriesOf, HasNoneInFile, IsSoundPlace, IsSound}
-use Rattle.rev_trees.specs.Formed.{IsFormed, AreFormed}
+use Rattle.rev_nodes.specs.Trees.{at, is_dir, is_dir_kind}
+use Rattle.rev_nodes.specs.Forests.{Numbered, ForestRevision, Forest, no_revision, tree_of, places_at, place_at, id_at}
+use Rattle.rev_nodes.specs.Entries.{is_child, entry_in, entries_in, AreEntriesOf, HasNoneInFile, IsSoundPlace, IsSound}
+use Rattle.rev_nodes.specs.Formed.{IsFormed, AreFormed}
 use Rattle.rev_trees.specs.Kept.{forest_of, places_in, AreKept}
-use Rattle.rev_trees.proofs.Below.{same_from}
+use Rattle.rev_nodes.proofs.Below.{same_from}
 use Rattle.rev_trees.proofs.Numbering.{places-are, length-of}
 use Rattle.rev_trees.proofs.Pushing.{tree_of-numbered}
 

@@ -13,16 +13,17 @@ use Rattle.std.proofs.lemmas.Slice.Eq.{bytes_eq-Decides}
 use Rattle.std.proofs.lemmas.List.{take_more, take_all, append-nil, get_or-set_other, get_or-set_same, length-set}
 use Rattle.std.proofs.lemmas.List.Elements.{filter_map-append, All-from_get_or}
 use Rattle.dsv_base.specs.Paths.{parent_text, name_of}
-use Rattle.rev_trees.specs.declared.entry.Entry.{Entry}
+use Rattle.rev_nodes.specs.declared.entry.Entry.{Entry}
 use Rattle.rev_trees.specs.declared.place.Place.{Place}
-use Rattle.rev_trees.specs.Trees.{TreeNode, at}
-use Rattle.rev_trees.specs.Forests.{Numbered}
-use Rattle.rev_trees.specs.Entries.{is_child, entry_in, entries_in}
-use Rattle.rev_trees.specs.Flat.{entry, tree_in, in_order}
+use Rattle.rev_nodes.specs.Trees.{TreeNode, at}
+use Rattle.rev_nodes.specs.Forests.{Numbered}
+use Rattle.rev_nodes.specs.Entries.{is_child, entry_in, entries_in}
+use Rattle.rev_nodes.specs.Fitting.{in_order}
+use Rattle.rev_trees.specs.Flat.{entry, tree_in}
 use Rattle.rev_trees.specs.Numbers.{numbered, numbered_from}
 use Rattle.rev_trees.specs.Listed.{has_path, IsListed, added, IsEntered}
 use Rattle.rev_trees.proofs.PlacesFound.{nowhere, length-tree_in, get_or-tree_in, get_or-any}
-use Rattle.rev_trees.proofs.Search.{rising, find_here}
+use Rattle.rev_nodes.proofs.Search.{rising, find_here}
 
 -- ---- places by their index
 

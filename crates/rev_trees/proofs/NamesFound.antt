@@ -10,7 +10,7 @@ use Rattle.std.specs.FinMap.Entries.{put, is_sorted, is_sorted-put}
 use Rattle.std.proofs.lemmas.List.Sorted.{IsNonDecreasingBy-from_default}
 use Rattle.rev_trees.specs.Named.{names_in, are_sorted, IsNamed, IsGapIn, IsWith}
 use Rattle.rev_trees.proofs.PlacesFound.{get_or-any}
-use Rattle.rev_trees.proofs.Search.{put_here, IsGap, put_gap, comparisons_rise}
+use Rattle.rev_nodes.proofs.Search.{put_here, IsGap, put_gap, comparisons_rise}
 
 abbrev named : List ℕ → List ℕ × Unit {0}
 named name = (name, tt)

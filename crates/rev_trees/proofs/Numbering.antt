@@ -7,13 +7,14 @@ use Rattle.std.specs.FinMap.{find}
 use Rattle.std.specs.Cmp.{tied_itself}
 use Rattle.std.specs.declared.cmp.Ordering.TheVariants.{Equal}
 use Rattle.std.specs.FinMap.Entries.{is_sorted, below_all}
-use Rattle.rev_trees.proofs.Search.{find_here}
+use Rattle.rev_nodes.proofs.Search.{find_here}
 use Rattle.rev_trees.proofs.PlacesFound.{nowhere}
 use Rattle.rev_trees.specs.declared.place.Place.{Place}
 use Rattle.rev_trees.specs.declared.revision.FlatRevision.{FlatRevision}
-use Rattle.rev_trees.specs.Trees.{TreeNode, at}
-use Rattle.rev_trees.specs.Forests.{Numbered, ForestRevision, Forest, no_revision, revision_at, places_at, place_at, id_at, line_at, node_at, IsId, IsNodeOf}
-use Rattle.rev_trees.specs.Flat.{node_of, tree_in, in_order, IsPlaceOf, IsGapFor}
+use Rattle.rev_nodes.specs.Trees.{TreeNode, at}
+use Rattle.rev_nodes.specs.Forests.{Numbered, ForestRevision, Forest, no_revision, revision_at, places_at, place_at, id_at, line_at, node_at, IsId, IsNodeOf}
+use Rattle.rev_nodes.specs.Fitting.{in_order}
+use Rattle.rev_trees.specs.Flat.{node_of, tree_in, IsPlaceOf, IsGapFor}
 use Rattle.rev_trees.specs.Kept.{revisions_from, forest_of, no_flat_revision, places_in, AreKept}
 use Rattle.rev_trees.specs.Numbers.{numbered_from}
 

@@ -9,10 +9,11 @@ use Rattle.std.specs.Cmp.Lexicographic.{slice_cmp, nat_list_cmp_total}
 use Rattle.std.proofs.lemmas.Map.Lookups.{exact_bytes}
 use Rattle.std.proofs.lemmas.List.Sorted.{IsNonDecreasingBy-from_default}
 use Rattle.rev_trees.specs.declared.place.Place.{Place}
-use Rattle.rev_trees.specs.declared.kind.Kind.TheVariants.{Dir}
-use Rattle.rev_trees.specs.Trees.{TreeNode}
-use Rattle.rev_trees.specs.Flat.{node_of, entry, tree_in, in_order, IsPlaceOf, IsGapFor}
-use Rattle.rev_trees.proofs.Search.{find_here, put_here, IsGap, find_gap, put_gap, comparisons_rise}
+use Rattle.rev_nodes.specs.declared.kind.Kind.TheVariants.{Dir}
+use Rattle.rev_nodes.specs.Trees.{TreeNode}
+use Rattle.rev_nodes.specs.Fitting.{in_order}
+use Rattle.rev_trees.specs.Flat.{node_of, entry, tree_in, IsPlaceOf, IsGapFor}
+use Rattle.rev_nodes.proofs.Search.{find_here, put_here, IsGap, find_gap, put_gap, comparisons_rise}
 
 -- a place of no tree, for what stands past the end
 abbrev pub nowhere : Place

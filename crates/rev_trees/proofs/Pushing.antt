@@ -1,23 +1,23 @@
 -- Pushing a revision, as the kept revisions do it.
 use Rattle.std.proofs.Common.{◌≡◌, ℕ, zero, suc, ◌+◌, ◌-◌, ◌≤◌, ◌<◌, List, [], ◌∷◌, ◌++◌, Result, Ok, Err, length, map, refl, sym, ap, subst, ◌∙◌, arith}
 use Rattle.dsv_base.specs.Gives.{◌>>=◌}
-use Rattle.rev_trees.specs.declared.commit.Commit.{Commit}
+use Rattle.rev_nodes.specs.declared.commit.Commit.{Commit}
 use Rattle.rev_trees.specs.declared.place.Place.{Place}
 use Rattle.rev_trees.specs.declared.push_fault.PushFault.{PushFault}
 use Rattle.rev_trees.specs.declared.push_fault.PushFault.TheVariants as faults
 use Rattle.rev_trees.specs.declared.revision.FlatRevision.{FlatRevision}
-use Rattle.rev_trees.specs.declared.unfit.Unfit.{Unfit}
-use Rattle.rev_trees.specs.Trees.{Tree, Revision, tree_at}
-use Rattle.rev_trees.specs.Changes.{apply_from}
-use Rattle.rev_trees.specs.ChangedPaths.{changed_paths}
-use Rattle.rev_trees.specs.Pushes.{trees_of, youngest_tree, tree_after, revision_of, pushed}
-use Rattle.rev_trees.specs.Forests.{ForestRevision, Forest, tree_of, without_numbers}
+use Rattle.rev_nodes.specs.declared.unfit.Unfit.{Unfit}
+use Rattle.rev_nodes.specs.Trees.{Tree, Revision, tree_at}
+use Rattle.rev_nodes.specs.Changes.{apply_from}
+use Rattle.rev_nodes.specs.ChangedPaths.{changed_paths}
+use Rattle.rev_nodes.specs.Pushes.{trees_of, youngest_tree, tree_after, revision_of, pushed}
+use Rattle.rev_nodes.specs.Forests.{ForestRevision, Forest, tree_of, without_numbers}
 use Rattle.rev_trees.specs.Readies.{ReadyRevision, IsReadyOn, IsUnchanged, IsNext, Prepares, Pushes, revisions_of}
 use Rattle.rev_trees.specs.Flat.{node_of, tree_in}
 use Rattle.rev_trees.specs.Kept.{lists_in, numbered_revision, revisions_from, forest_of, places_in, trees_in, ready_of, IsFlat, IsReady, AreKept}
 use Rattle.rev_trees.specs.Numbers.{numbered_from}
 use Rattle.rev_trees.specs.Listed.{IsListed}
-use Rattle.rev_trees.specs.Formed.{IsFormed}
+use Rattle.rev_nodes.specs.Formed.{IsFormed}
 use Rattle.rev_trees.specs.Made.{youngest_in, tree_made, IsMade, Makes}
 use Rattle.rev_trees.proofs.Numbering.{length-of}
 use Rattle.rev_trees.proofs.Steps.{source_tree}

@@ -10,11 +10,12 @@ use Rattle.std.proofs.lemmas.Map.Lookups.{exact_bytes}
 use Rattle.dsv_base.specs.declared.prop.Prop.{Prop}
 use Rattle.dsv_base.specs.Paths.{is_under}
 use Rattle.rev_trees.specs.declared.place.Place.{Place}
-use Rattle.rev_trees.specs.Trees.{TreeNode, Tree}
-use Rattle.rev_trees.specs.declared.unfit.Unfit.TheVariants.{NoNode}
-use Rattle.rev_trees.specs.Changes.{mark, marked, placed, with_props, edited, unfit_at}
-use Rattle.rev_trees.specs.Flat.{node_of, entry, settled, AreOf, IsFoundAt}
-use Rattle.rev_trees.proofs.Below.{under_itself}
+use Rattle.rev_nodes.specs.Trees.{TreeNode, Tree}
+use Rattle.rev_nodes.specs.declared.unfit.Unfit.TheVariants.{NoNode}
+use Rattle.rev_nodes.specs.Changes.{mark, marked, placed, with_props, edited, unfit_at}
+use Rattle.rev_nodes.specs.Fitting.{settled}
+use Rattle.rev_trees.specs.Flat.{node_of, entry, AreOf, IsFoundAt}
+use Rattle.rev_nodes.proofs.Marks.{marked_settled}
 
 -- a node of this revision has its mark
 pub marked_before : (r : ℕ) (path : List ℕ) (place : Place) → place.node.created ≡ r → entry place ≡ mark r path (entry place)
@@ -23,19 +24,6 @@ marked_before r path place same = either (is_under path place.path)
     either : (b : Bool) → entry place ≡ (place.path, if b then settled r (entry place).1 else (entry place).1)
     either true = ap (λ (n : ℕ). (place.path, settled n (entry place).1)) same
     either false = refl
-
-marked_at : (r : ℕ) (path key : List ℕ) (node : TreeNode) → is_under path key ≡ true → mark r path (key, settled r node) ≡ mark r path (key, node)
-marked_at r path key node under = ap (λ b. (key, if b then settled r node else settled r node)) under ∙ ap (λ b. (key, if b then settled r node else node)) (sym under)
-
--- a node that is put at the path gets its mark at once, or after
-pub marked_settled : (r : ℕ) (path : List ℕ) (node : TreeNode) (tree : Tree) → marked r path (placed path (settled r node) tree) ≡ marked r path (placed path node tree)
-marked_settled r path node [] = ap (λ e. e ∷ []) (marked_at r path path node (under_itself path))
-marked_settled r path node (e ∷ es) =
-    elim (slice_cmp nat_cmp path e.0) as (λ o. slice_cmp nat_cmp path e.0 ≡ o → marked r path (by_order o ((path, settled r node) ∷ e ∷ es) ((e.0, settled r node) ∷ es) (e ∷ placed path (settled r node) es)) ≡ marked r path (by_order o ((path, node) ∷ e ∷ es) ((e.0, node) ∷ es) (e ∷ placed path node es))) [
-      | Less ↦ λ t. ap (λ e1. e1 ∷ marked r path (e ∷ es)) (marked_at r path path node (under_itself path))
-      | Equal ↦ λ t. ap (λ e1. e1 ∷ marked r path es) (marked_at r path e.0 node (ap (is_under path) (sym (exact_bytes path e.0 t)) ∙ under_itself path))
-      | Greater ↦ λ t. ap (λ others. mark r path e ∷ others) (marked_settled r path node es)
-    ] refl
 
 -- so the places are those of the change
 pub settles : (r : ℕ) (path : List ℕ) (node made : TreeNode) (tree : Tree) (places : List Place) → made ≡ settled r node → AreOf (marked r path (placed path made tree)) places → AreOf (marked r path (placed path node tree)) places

@@ -3,35 +3,28 @@ use Rattle.std.specs.Prelude.{ℕ, ◌≡◌, ◌≤◌, ◌<◌, Bool, true, fa
 use Rattle.std.specs.FinMap.{is_sorted}
 use Rattle.std.specs.Ordering.{nat_cmp}
 use Rattle.std.specs.Cmp.Lexicographic.{slice_cmp}
-use Rattle.rev_trees.specs.declared.change.Change.{Change}
+use Rattle.rev_nodes.specs.declared.change.Change.{Change}
 use Rattle.rev_trees.specs.declared.place.Place.{Place}
 use Rattle.rev_trees.specs.declared.push_fault.PushFault.{PushFault}
 use Rattle.rev_trees.specs.declared.push_fault.PushFault.TheVariants as faults
-use Rattle.rev_trees.specs.declared.unfit.Unfit.{Unfit}
-use Rattle.rev_trees.specs.declared.unfit.Unfit.TheVariants.{NoNode, IsRoot, Exists, NoParent, TooLong, NoMemory}
-use Rattle.rev_trees.specs.Trees.{TreeNode, Tree, at}
-use Rattle.rev_trees.specs.Changes.{unfit, apply, apply_from, placed}
-use Rattle.rev_trees.specs.Formed.{IsFormed}
+use Rattle.rev_nodes.specs.declared.unfit.Unfit.{Unfit}
+use Rattle.rev_nodes.specs.declared.unfit.Unfit.TheVariants.{NoNode, IsRoot, Exists, NoParent, TooLong, NoMemory}
+use Rattle.rev_nodes.specs.Trees.{TreeNode, Tree, at}
+use Rattle.rev_nodes.specs.Changes.{unfit, apply, apply_from, placed}
+use Rattle.rev_nodes.specs.Fitting.{in_order, Fits}
+use Rattle.rev_nodes.specs.Formed.{IsFormed}
 
+-- the node of a place with its line
 abbrev pub node_of : Place → TreeNode
 node_of place = record { node = place.node; line = place.line }
 
+-- a place as the tree has it: its path and its node
 abbrev pub entry : Place → List ℕ × TreeNode
 entry place = (place.path, node_of place)
 
+-- the tree that a list of places is
 abbrev pub tree_in : List Place → Tree
 tree_in places = map entry places
-
-abbrev pub is_want : Unfit → Bool
-is_want NoMemory = true
-is_want NoNode = false
-is_want IsRoot = false
-is_want Exists = false
-is_want NoParent = false
-is_want TooLong = false
-
-abbrev pub in_order : Tree → Bool
-in_order tree = is_sorted (slice_cmp nat_cmp) tree
 
 -- the path stands at this index
 pub record IsPlaceOf (places : List Place) (path : List ℕ) (index : ℕ) : Type 0 where
@@ -51,18 +44,9 @@ pub record IsFoundAt (path : List ℕ) (tree : Tree) (place : Place) : Type 0 wh
   pub is : at path tree ≡ Some (node_of place)
   pub path_is : place.path ≡ path
 
--- it fits and the answer says what came of it, or this is why it doesn't fit; want of memory is free
-abbrev pub Fits : {X : Type 0} → (X → Type 0) → Option Unfit → Result X Unfit → Type 0
-Fits says why (Ok x) = (why ≡ None) × says x
-Fits says why (Err fault) = MatchBool (is_want fault) (Unit {0}) (why ≡ Some fault)
-
 -- a place for a path, with this node
 abbrev pub IsPlaced : List ℕ → TreeNode → Place → Type 0
 IsPlaced path node place = (place.path ≡ path) × (node_of place ≡ node)
-
--- a node as a change of this revision leaves it
-abbrev pub settled : ℕ → TreeNode → TreeNode
-settled r found = record found { node = record found.node { created = r } }
 
 -- the places of the tree
 pub record AreOf (tree : Tree) (places : List Place) : Type 0 where

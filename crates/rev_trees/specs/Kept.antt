@@ -2,17 +2,18 @@
 -- its revision and of where it stands there.
 use Rattle.std.specs.Prelude.{ℕ, ◌+◌, ◌≤◌, ◌<◌, List, [], ◌∷◌, None, length, map, slice_index_or, IsTrue}
 use Rattle.dsv_base.specs.Paths.{root_text}
-use Rattle.rev_trees.specs.declared.kind.Kind.TheVariants.{Dir}
+use Rattle.rev_nodes.specs.declared.kind.Kind.TheVariants.{Dir}
 use Rattle.rev_trees.specs.declared.place.Place.{Place}
 use Rattle.rev_trees.specs.declared.revision.FlatRevision.{FlatRevision}
-use Rattle.rev_trees.specs.Trees.{Tree}
-use Rattle.rev_trees.specs.Forests.{ForestRevision, Forest, no_commit}
+use Rattle.rev_nodes.specs.Trees.{Tree}
+use Rattle.rev_nodes.specs.Forests.{ForestRevision, Forest, no_commit}
 use Rattle.rev_trees.specs.Readies.{ReadyRevision}
-use Rattle.rev_trees.specs.Flat.{tree_in, in_order}
+use Rattle.rev_nodes.specs.Fitting.{in_order}
+use Rattle.rev_trees.specs.Flat.{tree_in}
 use Rattle.rev_trees.specs.Numbers.{numbered_from}
 use Rattle.rev_trees.specs.Listed.{IsListed}
-use Rattle.rev_trees.specs.Formed.{IsFormed}
-use Rattle.rev_trees.specs.declared.entry.Entry.{Entry}
+use Rattle.rev_nodes.specs.Formed.{IsFormed}
+use Rattle.rev_nodes.specs.declared.entry.Entry.{Entry}
 
 abbrev pub numbered_revision : ℕ → FlatRevision → ForestRevision
 numbered_revision rev revision = record { commit = revision.commit; changed = revision.changed; places = numbered_from rev 0 revision.places }

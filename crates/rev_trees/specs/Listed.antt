@@ -2,11 +2,12 @@
 use Rattle.std.specs.Prelude.{ℕ, ◌≡◌, ◌<◌, List, [], ◌++◌, length, slice_index_or, option_to_list, IsTrue}
 use Rattle.std.specs.List.{All}
 use Rattle.dsv_base.specs.Paths.{is_path}
-use Rattle.rev_trees.specs.declared.entry.Entry.{Entry}
+use Rattle.rev_nodes.specs.declared.entry.Entry.{Entry}
 use Rattle.rev_trees.specs.declared.place.Place.{Place}
-use Rattle.rev_trees.specs.Entries.{entry_in, entries_in}
+use Rattle.rev_nodes.specs.Entries.{entry_in, entries_in}
 use Rattle.rev_trees.specs.Numbers.{numbered_from, numbered}
 
+-- the place's path is one
 abbrev pub has_path : Place → Type 0
 has_path place = IsTrue (is_path place.path)
 

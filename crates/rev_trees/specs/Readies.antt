@@ -1,14 +1,14 @@
 -- A revision that is ready to be pushed, and what the two steps of a push do.
 use Rattle.std.specs.Prelude.{ℕ, ◌≡◌, ◌≤◌, List, [], ◌∷◌, ◌++◌, Result, Ok, Err, length, map}
-use Rattle.rev_trees.specs.declared.changed.Changed.{Changed}
-use Rattle.rev_trees.specs.declared.commit.Commit.{Commit}
+use Rattle.rev_nodes.specs.declared.changed.Changed.{Changed}
+use Rattle.rev_nodes.specs.declared.commit.Commit.{Commit}
 use Rattle.rev_trees.specs.declared.push_fault.PushFault.{PushFault}
 use Rattle.rev_trees.specs.declared.push_fault.PushFault.TheVariants.{Unfit, FullRevisions, NoMemory}
-use Rattle.rev_trees.specs.declared.unfit.Unfit as unfit
-use Rattle.rev_trees.specs.Trees.{Tree, Revision}
-use Rattle.rev_trees.specs.ChangedPaths.{changed_paths}
-use Rattle.rev_trees.specs.Pushes.{youngest_tree, tree_after}
-use Rattle.rev_trees.specs.Forests.{ForestRevision, Forest, tree_of, without_numbers}
+use Rattle.rev_nodes.specs.declared.unfit.Unfit as unfit
+use Rattle.rev_nodes.specs.Trees.{Tree, Revision}
+use Rattle.rev_nodes.specs.ChangedPaths.{changed_paths}
+use Rattle.rev_nodes.specs.Pushes.{youngest_tree, tree_after}
+use Rattle.rev_nodes.specs.Forests.{ForestRevision, Forest, tree_of, without_numbers}
 
 -- the revision of this number
 pub record ReadyRevision : Type 0 where

@@ -1,24 +1,22 @@
 ghost use Rattle.std.specs.Prelude.{◌≡◌, IsTrue, IfOk, None};
 ghost use Rattle.std.specs.List.{list_any};
-ghost use Rattle.rev_trees.specs.declared.mark.Mark.TheVariants as marks;
-ghost use Rattle.rev_trees.specs.Flat.{tree_in, in_order, node_of};
-ghost use Rattle.rev_trees.specs.ChangedPaths.{changed_paths, changed_at, added_path, kept_path, deletes, source_from, source_after};
+ghost use Rattle.rev_nodes.specs.declared.mark.Mark.TheVariants as marks;
+ghost use Rattle.rev_nodes.specs.Fitting.{in_order};
+ghost use Rattle.rev_trees.specs.Flat.{tree_in, node_of};
+ghost use Rattle.rev_nodes.specs.ChangedPaths.{changed_paths, changed_at, added_path, kept_path, deletes, source_from, source_after};
 
-use crate::change::Change;
-use crate::changed::Changed;
-use crate::kind::Kind;
-use crate::mark::Mark;
 use crate::named::named_paths;
 use crate::place::Place;
 use crate::places::place_at;
 use crate::shared::Shared;
 use dsv_base::{List, NoMemory, Path, Rev};
+use rev_nodes::{Change, Changed, Kind, Mark};
 use std::alloc::Global;
 
 /// The paths that the changes changed, from the places before them and after them. For a path that was
 /// added, or is there still, all changes are read again: the time grows with the number of changes
 /// times that of the paths they name.
-#[tactic(auto, unfolding(crate::specs::ChangedPaths::changed_paths))]
+#[tactic(auto, unfolding(rev_nodes::specs::ChangedPaths::changed_paths))]
 pub fn changed_paths(
     alloc: Global,
     changes: &[Change],

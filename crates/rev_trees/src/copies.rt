@@ -1,8 +1,7 @@
 ghost use Rattle.std.specs.Prelude.{◌≡◌, IfOk};
 
-use crate::line::Line;
-use crate::node::Node;
 use dsv_base::{Bytes, List, NoMemory, Path, Prop, Rev};
+use rev_nodes::{Line, Node};
 use std::alloc::Global;
 
 pub fn copy_line(line: &Line) -> Result<Line, NoMemory>

@@ -1,15 +1,15 @@
 ghost use Rattle.std.specs.Prelude.{◌≡◌, ℕ, IsTrue, IfOk, OnOk, None, Some, if◌then◌else◌, List};
 ghost use Rattle.dsv_base.specs.Paths.{is_path};
-ghost use Rattle.rev_trees.specs.declared.unfit.Unfit.TheVariants as whys;
-ghost use Rattle.rev_trees.specs.Changes.{past, moved, copied, copied_node, all_placed, are_paths, or_too_long};
-ghost use Rattle.rev_trees.specs.Flat.{tree_in, in_order, entry, node_of, AreOf, Fits};
+ghost use Rattle.rev_nodes.specs.declared.unfit.Unfit.TheVariants as whys;
+ghost use Rattle.rev_nodes.specs.Changes.{past, moved, copied, copied_node, all_placed, are_paths, or_too_long};
+ghost use Rattle.rev_nodes.specs.Fitting.{in_order, Fits};
+ghost use Rattle.rev_trees.specs.Flat.{tree_in, entry, node_of, AreOf};
 
-use crate::line::Line;
 use crate::place::Place;
 use crate::places::stand;
 use crate::shared::Shared;
-use crate::unfit::Unfit;
 use dsv_base::{NoMemory, Path, PathFault, Rev};
+use rev_nodes::{Line, Unfit};
 use std::alloc::Global;
 
 /// What a copy of all under the source adds in a revision.

@@ -1,33 +1,30 @@
 ghost use Rattle.std.specs.Prelude.{◌≡◌, ℕ, ⊤, IsTrue, IfOk, OnOk, List, [], None, Some, is_some, if◌then◌else◌};
 ghost use Rattle.dsv_base.specs.Paths.{is_path, root_text};
-ghost use Rattle.rev_trees.specs.declared.change.Change.TheVariants as changes;
-ghost use Rattle.rev_trees.specs.declared.kind.Kind.{Kind};
-ghost use Rattle.rev_trees.specs.declared.unfit.Unfit.TheVariants as whys;
-ghost use Rattle.rev_trees.specs.Trees.{Tree, TreeNode, at, new_dir, new_file, is_dir_kind};
-ghost use Rattle.rev_trees.specs.ChangedPaths.{path_of};
-ghost use Rattle.rev_trees.specs.Changes.{unfit, unfit_at, unfit_new, unfit_copy, apply, marked, placed, all_placed, copied, with_text, with_prop, without_prop, with_props};
-ghost use Rattle.rev_trees.specs.Flat.{tree_in, in_order, node_of, settled, AreOf, Fits, IsPlaced, Applies};
+ghost use Rattle.rev_nodes.specs.declared.change.Change.TheVariants as changes;
+ghost use Rattle.rev_nodes.specs.declared.kind.Kind.{Kind};
+ghost use Rattle.rev_nodes.specs.declared.unfit.Unfit.TheVariants as whys;
+ghost use Rattle.rev_nodes.specs.Trees.{Tree, TreeNode, at, new_dir, new_file, is_dir_kind};
+ghost use Rattle.rev_nodes.specs.ChangedPaths.{path_of};
+ghost use Rattle.rev_nodes.specs.Changes.{unfit, unfit_at, unfit_new, unfit_copy, apply, marked, placed, all_placed, copied, with_text, with_prop, without_prop, with_props};
+ghost use Rattle.rev_nodes.specs.Fitting.{in_order, settled, Fits};
+ghost use Rattle.rev_trees.specs.Flat.{tree_in, node_of, AreOf, IsPlaced, Applies};
 ghost use Rattle.rev_trees.specs.Kept.{trees_in, places_in};
 
-use crate::change::Change;
 use crate::copies::{copy_line, copy_props};
 use crate::copying::{copies, stand_all};
-use crate::kind::Kind;
-use crate::line::Line;
 use crate::marks::{mark, remove_under};
-use crate::node::Node;
 use crate::place::Place;
 use crate::places::{has_parent, is_at, place_at, stand};
 use crate::props::{with_prop, without_prop};
 use crate::revision::FlatRevision;
 use crate::shared::Shared;
-use crate::unfit::Unfit;
 use dsv_base::{Bytes, List, NoMemory, Path, Prop, Rev};
+use rev_nodes::{Change, Kind, Line, Node, Unfit};
 use std::alloc::Global;
 
 /// Does a change of the revision that the places are growing to; copies are taken from the
 /// revisions so far.
-#[tactic(auto, unfolding(crate::specs::Changes::unfit, crate::specs::Changes::apply))]
+#[tactic(auto, unfolding(rev_nodes::specs::Changes::unfit, rev_nodes::specs::Changes::apply))]
 pub fn apply(
     alloc: Global,
     places: &mut Vec<Shared<Place>>,
@@ -67,7 +64,7 @@ fn source_places(revisions: &[FlatRevision], rev: Rev) -> &[Shared<Place>]
     }
 }
 
-#[tactic(auto, unfolding(crate::specs::Changes::unfit, crate::specs::Changes::apply))]
+#[tactic(auto, unfolding(rev_nodes::specs::Changes::unfit, rev_nodes::specs::Changes::apply))]
 fn put(
     alloc: Global,
     places: &mut Vec<Shared<Place>>,
@@ -85,7 +82,7 @@ fn put(
 }
 
 /// The place that a put makes.
-#[tactic(auto, unfolding(crate::specs::Changes::unfit))]
+#[tactic(auto, unfolding(rev_nodes::specs::Changes::unfit))]
 fn put_place(
     alloc: Global,
     places: &[Shared<Place>],
@@ -111,7 +108,7 @@ fn put_place(
     }
 }
 
-#[tactic(auto, unfolding(crate::specs::Changes::unfit, crate::specs::Changes::apply))]
+#[tactic(auto, unfolding(rev_nodes::specs::Changes::unfit, rev_nodes::specs::Changes::apply))]
 fn set_prop(
     alloc: Global,
     places: &mut Vec<Shared<Place>>,
@@ -133,7 +130,7 @@ fn set_prop(
     Ok(())
 }
 
-#[tactic(auto, unfolding(crate::specs::Changes::unfit, crate::specs::Changes::apply))]
+#[tactic(auto, unfolding(rev_nodes::specs::Changes::unfit, rev_nodes::specs::Changes::apply))]
 fn del_prop(
     alloc: Global,
     places: &mut Vec<Shared<Place>>,
@@ -154,7 +151,7 @@ fn del_prop(
     Ok(())
 }
 
-#[tactic(auto, unfolding(crate::specs::Changes::unfit, crate::specs::Changes::apply))]
+#[tactic(auto, unfolding(rev_nodes::specs::Changes::unfit, rev_nodes::specs::Changes::apply))]
 fn mkdir(alloc: Global, places: &mut Vec<Shared<Place>>, path: &Path, rev: Rev) -> Result<(), Unfit>
     requires { IsTrue (in_order (tree_in places.old.items)) }
     ensures says { (trees : List Tree) → Applies rev (changes.Mkdir path.now) trees places.old.items places.new.items result }
@@ -167,7 +164,7 @@ fn mkdir(alloc: Global, places: &mut Vec<Shared<Place>>, path: &Path, rev: Rev) 
     Ok(())
 }
 
-#[tactic(auto, unfolding(crate::specs::Changes::unfit, crate::specs::Changes::apply))]
+#[tactic(auto, unfolding(rev_nodes::specs::Changes::unfit, rev_nodes::specs::Changes::apply))]
 fn delete(
     alloc: Global,
     places: &mut Vec<Shared<Place>>,

@@ -1,5 +1,5 @@
-use crate::entry::Entry;
 use dsv_base::NoMemory;
+use rev_nodes::Entry;
 use std::alloc::Global;
 use std::marker::Model;
 
@@ -11,7 +11,7 @@ pub struct EntryList {
 
 impl Model for EntryList {
     ghost use Rattle.std.specs.Prelude.{List};
-    ghost use Rattle.rev_trees.specs.declared.entry.Entry.{Entry};
+    ghost use Rattle.rev_nodes.specs.declared.entry.Entry.{Entry};
 
     ghost Value = { List Entry };
 

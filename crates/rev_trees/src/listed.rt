@@ -1,15 +1,15 @@
 ghost use Rattle.std.specs.Prelude.{◌≡◌, ◌<◌, ◌≤◌, IsTrue, IfOk, OnOk, length, [], replicate};
-ghost use Rattle.rev_trees.specs.Flat.{tree_in, in_order};
+ghost use Rattle.rev_nodes.specs.Fitting.{in_order};
+ghost use Rattle.rev_trees.specs.Flat.{tree_in};
 ghost use Rattle.rev_trees.specs.Listed.{IsListed, IsEntered};
 
-use crate::entry::Entry;
 use crate::entry_list::EntryList;
 use crate::next::SPAN;
-use crate::node_id::NodeId;
 use crate::place::Place;
 use crate::places::search;
 use crate::shared::Shared;
 use dsv_base::{Bytes, List, NoMemory, Rev, parent_text};
+use rev_nodes::{Entry, NodeId};
 use std::alloc::Global;
 
 /// What stands in each of the places of the revision of this number, in the places' order.

@@ -1,5 +1,5 @@
 ghost use Rattle.std.specs.Prelude.{◌≡◌, IsTrue, IfOk, OnOk};
-ghost use Rattle.rev_trees.specs.Changes.{mark, marked, without};
+ghost use Rattle.rev_nodes.specs.Changes.{mark, marked, without};
 ghost use Rattle.rev_trees.specs.Flat.{tree_in, entry};
 
 use crate::copies::{copy_line, copy_node};

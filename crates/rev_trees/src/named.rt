@@ -1,11 +1,11 @@
 ghost use Rattle.std.specs.Prelude.{◌≡◌, IsTrue, IfOk, IfErr, OnOk};
 ghost use Rattle.std.specs.Ordering.{nat_cmp};
 ghost use Rattle.std.specs.Cmp.Lexicographic.{slice_cmp};
-ghost use Rattle.rev_trees.specs.ChangedPaths.{path_of, named_paths};
+ghost use Rattle.rev_nodes.specs.ChangedPaths.{path_of, named_paths};
 ghost use Rattle.rev_trees.specs.Named.{names_in, are_sorted, IsNamed, IsGapIn, IsWith};
 
-use crate::change::Change;
 use dsv_base::{NoMemory, Path};
+use rev_nodes::Change;
 use std::alloc::Global;
 use std::cmp::Ordering;
 

@@ -1,20 +1,19 @@
 ghost use Rattle.std.specs.Prelude.{◌≡◌, ℕ, ◌-◌, ◌<◌, ◌≤◌, IsTrue, IfOk, length};
-ghost use Rattle.rev_trees.specs.Flat.{tree_in, in_order, fault_of, AppliesAll};
+ghost use Rattle.rev_nodes.specs.Fitting.{in_order};
+ghost use Rattle.rev_trees.specs.Flat.{tree_in, fault_of, AppliesAll};
 ghost use Rattle.rev_trees.specs.Kept.{trees_in, places_in, AreKept};
-ghost use Rattle.rev_trees.specs.Formed.{IsFormed};
+ghost use Rattle.rev_nodes.specs.Formed.{IsFormed};
 ghost use Rattle.rev_trees.specs.Made.{Makes};
 
-use crate::change::Change;
 use crate::changed_list::changed_paths;
-use crate::commit::Commit;
 use crate::edits::apply;
 use crate::listed::entries_of;
 use crate::place::Place;
 use crate::push_fault::PushFault;
 use crate::revision::FlatRevision;
 use crate::shared::Shared;
-use crate::unfit::Unfit;
 use dsv_base::{List, NoMemory, Rev};
+use rev_nodes::{Change, Commit, Unfit};
 use std::alloc::Global;
 
 /// The places that a revision has at most: so the number of a node tells its revision.

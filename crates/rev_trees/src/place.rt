@@ -1,7 +1,6 @@
-use crate::line::Line;
-use crate::node::Node;
 use crate::shared::Shared;
 use dsv_base::Path;
+use rev_nodes::{Line, Node};
 
 /// A place of a revision's tree: a path, the node there, and where that began.
 #[derive(Debug, Drop)]

@@ -1,14 +1,15 @@
 ghost use Rattle.std.specs.Prelude.{◌≡◌, IsTrue, IfOk, IfErr, MatchOption, OnOk, Some, None, is_some};
 ghost use Rattle.std.specs.Ordering.{nat_cmp};
 ghost use Rattle.std.specs.Cmp.Lexicographic.{slice_cmp};
-ghost use Rattle.rev_trees.specs.Trees.{is_dir, at};
-ghost use Rattle.rev_trees.specs.Changes.{has_parent, placed};
-ghost use Rattle.rev_trees.specs.Flat.{tree_in, in_order, node_of, AreOf, IsFoundAt, IsPlaceOf, IsGapFor};
+ghost use Rattle.rev_nodes.specs.Trees.{is_dir, at};
+ghost use Rattle.rev_nodes.specs.Changes.{has_parent, placed};
+ghost use Rattle.rev_nodes.specs.Fitting.{in_order};
+ghost use Rattle.rev_trees.specs.Flat.{tree_in, node_of, AreOf, IsFoundAt, IsPlaceOf, IsGapFor};
 
-use crate::kind::Kind;
 use crate::place::Place;
 use crate::shared::Shared;
 use dsv_base::{NoMemory, parent_text};
+use rev_nodes::Kind;
 use std::cmp::Ordering;
 
 /// Where the path stands among places in order, or else where it would stand.

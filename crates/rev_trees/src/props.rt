@@ -1,5 +1,5 @@
 ghost use Rattle.std.specs.Prelude.{◌≡◌, ◌∷◌, ◌++◌, IfOk};
-ghost use Rattle.rev_trees.specs.Changes.{with_prop, without_prop};
+ghost use Rattle.rev_nodes.specs.Changes.{with_prop, without_prop};
 
 use crate::copies::copy_prop;
 use dsv_base::{Bytes, List, NoMemory, Prop};

@@ -1,9 +1,8 @@
-use crate::changed::Changed;
-use crate::commit::Commit;
 use crate::entry_list::EntryList;
 use crate::place::Place;
 use crate::shared::Shared;
 use dsv_base::List;
+use rev_nodes::{Changed, Commit};
 
 /// A revision: its commit, what this changed, and its tree as places in byte order of the path's
 /// text.

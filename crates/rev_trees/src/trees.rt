@@ -3,26 +3,20 @@ ghost use Rattle.std.specs.Option.{option_map, SomeIff};
 ghost use Rattle.std.specs.FinMap.{find};
 ghost use Rattle.std.specs.Ordering.{nat_cmp};
 ghost use Rattle.std.specs.Cmp.Lexicographic.{slice_cmp};
-ghost use Rattle.rev_trees.specs.Trees.{at};
-ghost use Rattle.rev_trees.specs.Pushes.{first_revision};
-ghost use Rattle.rev_trees.specs.Forests.{Numbered, id_at, line_at, revision_at, repository_of, IsId, IsNodeOf};
-ghost use Rattle.rev_trees.specs.Entries.{AreEntriesOf, HasNoneInFile, IsSound};
-ghost use Rattle.rev_trees.specs.Formed.{AreFormed};
+ghost use Rattle.rev_nodes.specs.Trees.{at};
+ghost use Rattle.rev_nodes.specs.Pushes.{first_revision};
+ghost use Rattle.rev_nodes.specs.Forests.{Numbered, id_at, line_at, revision_at, repository_of, IsId, IsNodeOf};
+ghost use Rattle.rev_nodes.specs.Entries.{AreEntriesOf, HasNoneInFile, IsSound};
+ghost use Rattle.rev_nodes.specs.Formed.{AreFormed};
 ghost use Rattle.rev_trees.specs.Readies.{IsReadyOn, IsUnchanged, Prepares, Pushes};
 ghost use Rattle.rev_trees.specs.Kept.{places_in, lists_in, no_flat_revision, root_place};
 ghost use Rattle.rev_trees.specs.Numbers.{numbered_from};
-ghost use Rattle.rev_trees.specs.Flat.{tree_in, in_order};
+ghost use Rattle.rev_nodes.specs.Fitting.{in_order};
+ghost use Rattle.rev_trees.specs.Flat.{tree_in};
 
-use crate::changed::Changed;
-use crate::commit::Commit;
 use crate::copies::copy_line;
-use crate::entry::Entry;
 use crate::entry_list::EntryList;
-use crate::kind::Kind;
-use crate::line::Line;
 use crate::next::{SPAN, next_revision};
-use crate::node::Node;
-use crate::node_id::NodeId;
 use crate::place::Place;
 use crate::places::{place_at, search};
 use crate::push_fault::PushFault;
@@ -30,6 +24,7 @@ use crate::ready::Ready;
 use crate::revision::FlatRevision;
 use crate::shared::Shared;
 use dsv_base::{Bytes, List, NoMemory, Path, Rev};
+use rev_nodes::{Changed, Commit, Entry, Kind, Line, Node, NodeId};
 use std::alloc::Global;
 use std::marker::Model;
 
@@ -47,7 +42,7 @@ pub struct Trees {
 }
 
 impl Model for Trees {
-    ghost use Rattle.rev_trees.specs.Forests.{Forest};
+    ghost use Rattle.rev_nodes.specs.Forests.{Forest};
     ghost use Rattle.rev_trees.specs.Kept.{forest_of, AreKept};
     ghost use Rattle.std.specs.Prelude.{◌-◌, vec_len, vec_capacity};
 
@@ -256,7 +251,7 @@ fn root_place(alloc: Global) -> Result<Shared<Place>, NoMemory>
 }
 
 /// The number of the first revision.
-pub(crate) fn zeroth() -> Rev
+fn zeroth() -> Rev
     ensures { result ≡ 0 }
 {
     match Rev::of(0) {

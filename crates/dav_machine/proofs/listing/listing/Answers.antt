@@ -6,9 +6,9 @@ use Rattle.authz_check.specs.Access.{can_read}
 use Rattle.dav_documents.specs.Drafts.{with_elements}
 use Rattle.dav_documents.specs.Written.{Written, for_each}
 use Rattle.dav_names.specs.Targets.{root_of}
-use Rattle.rev_trees.specs.declared.entry.Entry.{Entry}
-use Rattle.rev_trees.specs.Forests.{Forest, id_at, places_at}
-use Rattle.rev_trees.specs.Entries.{IsSound, entries_in}
+use Rattle.rev_nodes.specs.declared.entry.Entry.{Entry}
+use Rattle.rev_nodes.specs.Forests.{Forest, id_at, places_at}
+use Rattle.rev_nodes.specs.Entries.{IsSound, entries_in}
 use Rattle.dav_machine.specs.Listings.{Child, item_of, listing_text}
 use Rattle.dav_machine.specs.ShownEntries.{StandsIn, shown_entries}
 use Rattle.dav_machine.proofs.Listed.{entries_stand, children_are}

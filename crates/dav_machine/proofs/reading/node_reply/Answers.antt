@@ -1,8 +1,8 @@
 use Rattle.std.proofs.Common.{◌≡◌, ◌∙◌, Ok, Some, sym, ap}
 use Rattle.std.specs.Option.{option_copied}
 use Rattle.dsv_base.specs.declared.reply.Reply.{Reply}
-use Rattle.rev_trees.specs.declared.kind.Kind.{Kind}
-use Rattle.rev_trees.specs.Forests.{Forest, repository_of, id_at, node_at}
+use Rattle.rev_nodes.specs.declared.kind.Kind.{Kind}
+use Rattle.rev_nodes.specs.Forests.{Forest, repository_of, id_at, node_at}
 use Rattle.log_access.specs.Shown.{Shown, shown_of}
 use Rattle.dav_machine.specs.Media.{media_type}
 use Rattle.dav_machine.specs.Replies.{content_reply, html_type}

@@ -1,5 +1,5 @@
 use Rattle.std.proofs.Common.{ℕ, ◌≤◌, inr, refl, subst, ◌∙◌, arith}
-use Rattle.rev_trees.specs.Forests.{repository_of}
+use Rattle.rev_nodes.specs.Forests.{repository_of}
 use Rattle.davsvn_run.specs.Commands.{FileNames}
 use Rattle.davsvn_run.specs.Opening.{Contents, AreRules}
 use Rattle.davsvn_run.specs.Runs.{Opens}

@@ -4,7 +4,7 @@ use Rattle.http_front.specs.Advances.{request_with}
 use Rattle.http_front.specs.Chunks.{IsContent}
 use Rattle.http_front.specs.Messages.{IsFirst}
 use Rattle.http_front.specs.Outcomes.{Whole, Part}
-use Rattle.http_front.specs.Readings.{ChunksSay, Reads}
+use Rattle.http_front.specs.Readings.{ChunksSay, ReadsChunks}
 use Rattle.http_front.proofs.AdvanceLemmas.{first_chunked, first_chunks_open, first_chunks_long}
 use Rattle.http_front.proofs.ContentLemmas.{content_size}
 use Rattle.http_front.proofs.SectionLemmas.{head_size}
@@ -35,5 +35,5 @@ returns-else-after-gt-MOST_ENCODED_BYTES c =
           first_chunks_open users number c.args.bytes.now c.args.head c.requires.framed
           (subst (λ t. IsContent t Part) (c.front_bytes.ensures ∙ ap (take 134217728) c.rest_from-after.ensures) waits.1)
           (omega (arith, ap length c.rest_from-after.ensures)),
-      (c.requires.framed, subst (λ t. Reads t c.read.new.self) (c.front_bytes.ensures ∙ ap (take 134217728) c.rest_from-after.ensures) waits.0),
+      (c.requires.framed, subst (λ t. ReadsChunks t c.read.new.self) (c.front_bytes.ensures ∙ ap (take 134217728) c.rest_from-after.ensures) waits.0),
     )

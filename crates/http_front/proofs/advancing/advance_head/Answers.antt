@@ -1,5 +1,5 @@
 use Rattle.std.proofs.Common.{◌≡◌, take, drop, arith, subst, sym, ap, ◌∙◌}
-use Rattle.http_front.specs.declared.place.Place.TheVariants.{Before}
+use Rattle.http_front.specs.declared.byte_place.BytePlace.TheVariants.{Before}
 use Rattle.http_front.specs.Scans.{IsScanned, further}
 use Rattle.http_front.specs.Sections.{section_from}
 use Rattle.http_front.proofs.AdvanceLemmas.{first_open, first_too_long}

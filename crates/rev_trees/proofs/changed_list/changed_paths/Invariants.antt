@@ -1,6 +1,6 @@
 use Rattle.std.proofs.Common.{◌≡◌, ◌++◌, drop}
 use Rattle.std.specs.List.{filter_map}
-use Rattle.rev_trees.specs.ChangedPaths.{changed_at, changed_paths}
+use Rattle.rev_nodes.specs.ChangedPaths.{changed_at, changed_paths}
 use Rattle.rev_trees.specs.Flat.{tree_in}
 use Rattle.rev_trees.specs.Named.{names_in}
 use Rattle.rev_trees.proofs.changed_list.changed_paths.Given as goal

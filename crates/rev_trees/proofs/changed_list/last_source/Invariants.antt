@@ -1,5 +1,5 @@
 use Rattle.std.proofs.Common.{◌≡◌, None, drop}
-use Rattle.rev_trees.specs.ChangedPaths.{source_from}
+use Rattle.rev_nodes.specs.ChangedPaths.{source_from}
 use Rattle.rev_trees.proofs.changed_list.last_source.Given as goal
 
 abbrev pub invariant-changes : goal.invariant-changes

@@ -1,5 +1,5 @@
 use Rattle.std.proofs.Common.{◌≡◌, ◌++◌, drop}
-use Rattle.rev_trees.specs.Changes.{copied, are_paths}
+use Rattle.rev_nodes.specs.Changes.{copied, are_paths}
 use Rattle.rev_trees.specs.Flat.{tree_in}
 use Rattle.rev_trees.proofs.copying.copies.Given as goal
 

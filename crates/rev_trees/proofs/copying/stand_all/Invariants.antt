@@ -1,7 +1,8 @@
 use Rattle.std.proofs.Common.{◌≡◌, IsTrue, length}
 use Rattle.std.specs.Vec.Iter.{into_iter_items, into_iter_len}
-use Rattle.rev_trees.specs.Changes.{all_placed}
-use Rattle.rev_trees.specs.Flat.{tree_in, in_order}
+use Rattle.rev_nodes.specs.Changes.{all_placed}
+use Rattle.rev_nodes.specs.Fitting.{in_order}
+use Rattle.rev_trees.specs.Flat.{tree_in}
 use Rattle.rev_trees.proofs.copying.stand_all.Given as goal
 
 -- the copies that are left make of the places what all make of the first ones

@@ -1,4 +1,4 @@
-use Rattle.rev_trees.specs.Changes.{unfit, apply}
+use Rattle.rev_nodes.specs.Changes.{unfit, apply}
 use Rattle.rev_trees.specs.Kept.{trees_in}
 use Rattle.rev_trees.proofs.Steps.{source_tree}
 use Rattle.rev_trees.proofs.edits.apply.Goals as goal

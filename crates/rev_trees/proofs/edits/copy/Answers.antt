@@ -1,7 +1,8 @@
 use Rattle.std.proofs.Common.{refl, sym}
 use Rattle.std.proofs.lemmas.Result.{err_from_is_err_and}
 use Rattle.rev_trees.specs.Flat.{tree_in}
-use Rattle.rev_trees.proofs.Steps.{any_revision, copy_why, same_fault, marks_all}
+use Rattle.rev_nodes.proofs.Marks.{any_revision, copy_why, same_fault}
+use Rattle.rev_trees.proofs.Steps.{marks_all}
 use Rattle.rev_trees.proofs.edits.copy.Goals as goal
 
 pub returns-in_err-new-clause-says : goal.returns-in_err-new-clause-says

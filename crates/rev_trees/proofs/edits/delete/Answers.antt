@@ -1,6 +1,7 @@
 use Rattle.std.proofs.Common.{sym}
-use Rattle.rev_trees.specs.Changes.{unfit, apply}
-use Rattle.rev_trees.proofs.Steps.{delete_why, removed}
+use Rattle.rev_nodes.specs.Changes.{unfit, apply}
+use Rattle.rev_nodes.proofs.Marks.{delete_why}
+use Rattle.rev_trees.proofs.Steps.{removed}
 use Rattle.rev_trees.proofs.edits.delete.Goals as goal
 
 pub returns-clause-says : goal.returns-clause-says

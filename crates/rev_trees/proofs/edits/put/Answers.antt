@@ -1,4 +1,4 @@
-use Rattle.rev_trees.specs.Changes.{unfit, apply}
+use Rattle.rev_nodes.specs.Changes.{unfit, apply}
 use Rattle.rev_trees.specs.Flat.{node_of}
 use Rattle.rev_trees.proofs.Settled.{settles}
 use Rattle.rev_trees.proofs.edits.put.Goals as goal

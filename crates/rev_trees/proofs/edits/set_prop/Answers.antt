@@ -1,7 +1,7 @@
 use Rattle.std.proofs.Common.{List, ap, ◌∙◌}
 use Rattle.dsv_base.specs.declared.prop.Prop.{Prop}
-use Rattle.rev_trees.specs.declared.node.Node.{Node}
-use Rattle.rev_trees.specs.Changes.{with_prop, unfit, apply}
+use Rattle.rev_nodes.specs.declared.node.Node.{Node}
+use Rattle.rev_nodes.specs.Changes.{with_prop, unfit, apply}
 use Rattle.rev_trees.proofs.Settled.{edits_at}
 use Rattle.rev_trees.proofs.edits.set_prop.Goals as goal
 

@@ -1,6 +1,6 @@
 use Rattle.std.proofs.Common.{rules, refl, sym, subst, T, ◌∙◌, ◌≡◌, ◌+◌, ◌*◌, ◌++◌, ◌∷◌, [], List, Some, get_or, arith}
 use Rattle.dsv_base.specs.Paths.{parent_text, name_of}
-use Rattle.rev_trees.specs.declared.entry.Entry.{Entry}
+use Rattle.rev_nodes.specs.declared.entry.Entry.{Entry}
 use Rattle.rev_trees.proofs.Listing.{any_default, on_ok, orphan_entered, child_entered}
 use Rattle.rev_trees.proofs.listed.enter.Goals as goal
 

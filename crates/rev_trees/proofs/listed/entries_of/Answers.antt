@@ -1,5 +1,5 @@
 use Rattle.std.proofs.Common.{List, sym, subst, arith}
-use Rattle.rev_trees.specs.declared.entry.Entry.{Entry}
+use Rattle.rev_nodes.specs.declared.entry.Entry.{Entry}
 use Rattle.rev_trees.specs.Listed.{IsListed}
 use Rattle.rev_trees.proofs.Listing.{more_entered, all_entered}
 use Rattle.rev_trees.proofs.listed.entries_of.Goals as goal

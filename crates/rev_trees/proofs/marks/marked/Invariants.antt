@@ -1,6 +1,6 @@
 use Rattle.std.proofs.Common.{◌≡◌, ◌++◌, length}
 use Rattle.std.specs.Vec.Iter.{into_iter_items, into_iter_len}
-use Rattle.rev_trees.specs.Changes.{marked}
+use Rattle.rev_nodes.specs.Changes.{marked}
 use Rattle.rev_trees.specs.Flat.{tree_in}
 use Rattle.rev_trees.proofs.marks.marked.Given as goal
 

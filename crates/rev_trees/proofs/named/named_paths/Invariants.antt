@@ -1,5 +1,5 @@
 use Rattle.std.proofs.Common.{◌≡◌, IsTrue, drop}
-use Rattle.rev_trees.specs.ChangedPaths.{named_from, named_paths}
+use Rattle.rev_nodes.specs.ChangedPaths.{named_from, named_paths}
 use Rattle.rev_trees.specs.Named.{names_in, are_sorted}
 use Rattle.rev_trees.proofs.named.named_paths.Given as goal
 

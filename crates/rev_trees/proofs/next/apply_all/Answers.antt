@@ -1,6 +1,7 @@
 use Rattle.std.proofs.Common.{sym, arith}
-use Rattle.rev_trees.proofs.Forming.{formed_step}
-use Rattle.rev_trees.proofs.Steps.{one_done, first_fails, all_done}
+use Rattle.rev_trees.proofs.FormedStep.{formed_step}
+use Rattle.rev_nodes.proofs.Marks.{one_done, all_done}
+use Rattle.rev_trees.proofs.Steps.{first_fails}
 use Rattle.rev_trees.specs.Kept.{trees_in}
 use Rattle.rev_trees.proofs.next.apply_all.Goals as goal
 

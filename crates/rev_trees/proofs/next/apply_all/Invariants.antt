@@ -1,7 +1,8 @@
 use Rattle.std.proofs.Common.{◌≡◌, IsTrue, drop}
-use Rattle.rev_trees.specs.Changes.{apply_from}
-use Rattle.rev_trees.specs.Flat.{tree_in, in_order}
-use Rattle.rev_trees.specs.Formed.{IsFormed}
+use Rattle.rev_nodes.specs.Changes.{apply_from}
+use Rattle.rev_nodes.specs.Fitting.{in_order}
+use Rattle.rev_trees.specs.Flat.{tree_in}
+use Rattle.rev_nodes.specs.Formed.{IsFormed}
 use Rattle.rev_trees.specs.Kept.{trees_in}
 use Rattle.rev_trees.proofs.next.apply_all.Given as goal
 

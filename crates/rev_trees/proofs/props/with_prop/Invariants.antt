@@ -1,5 +1,5 @@
 use Rattle.std.proofs.Common.{◌≡◌, ◌++◌, length}
-use Rattle.rev_trees.specs.Changes.{with_prop}
+use Rattle.rev_nodes.specs.Changes.{with_prop}
 use Rattle.rev_trees.proofs.props.with_prop.Given as goal
 
 abbrev pub invariant-front : goal.invariant-front

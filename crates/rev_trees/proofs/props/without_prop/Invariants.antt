@@ -1,5 +1,5 @@
 use Rattle.std.proofs.Common.{◌≡◌, ◌++◌, drop}
-use Rattle.rev_trees.specs.Changes.{without_prop}
+use Rattle.rev_nodes.specs.Changes.{without_prop}
 use Rattle.rev_trees.proofs.props.without_prop.Given as goal
 
 abbrev pub invariant-props : goal.invariant-props

@@ -1,5 +1,5 @@
 use Rattle.std.proofs.Common.{drop, arith}
-use Rattle.http_front.specs.declared.refusal.Refusal.TheVariants.{BodyTooLarge}
+use Rattle.http_front.specs.declared.message_fault.MessageFault.TheVariants.{BodyTooLarge}
 use Rattle.http_front.specs.declared.size_line.SizeLine.TheVariants.{Line}
 use Rattle.http_front.specs.Outcomes.{Refused}
 use Rattle.http_front.proofs.ReadingLemmas.{content_from, large_step}

@@ -1,5 +1,5 @@
 use Rattle.std.proofs.Common.{refl, subst}
-use Rattle.http_front.specs.declared.refusal.Refusal.TheVariants.{BadMessage}
+use Rattle.http_front.specs.declared.message_fault.MessageFault.TheVariants.{BadMessage}
 use Rattle.http_front.specs.declared.size_line.SizeLine.TheVariants.{Unreadable}
 use Rattle.http_front.specs.Chunks.{IsSizeLine}
 use Rattle.http_front.specs.Outcomes.{Refused}

@@ -1,7 +1,7 @@
 use Rattle.std.proofs.Common.{◌+◌, length, drop, arith, refl, subst, sym, ap, ◌∙◌}
 use Rattle.http_front.specs.Sections.{section_from}
 use Rattle.http_front.specs.Scans.{IsScanned}
-use Rattle.http_front.specs.declared.place.Place.TheVariants.{Between}
+use Rattle.http_front.specs.declared.byte_place.BytePlace.TheVariants.{Between}
 use Rattle.http_front.proofs.ScanLemmas.{scanned_join}
 use Rattle.http_front.proofs.ReadingLemmas.{trailers_here, trailers_fit, trailers_rest, trailers_long, trailers_whole, trailers_open}
 use Rattle.http_front.proofs.chunks.Chunks.read_trailers.Goals as goal

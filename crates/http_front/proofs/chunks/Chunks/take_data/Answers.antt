@@ -1,5 +1,5 @@
 use Rattle.std.proofs.Common.{◌≡◌, ℕ, List, ◌++◌, ◌+◌, ◌≤◌, length, None, take, drop, arith, subst, ap, sym, ◌∙◌}
-use Rattle.http_front.specs.declared.refusal.Refusal.TheVariants.{BadMessage}
+use Rattle.http_front.specs.declared.message_fault.MessageFault.TheVariants.{BadMessage}
 use Rattle.http_front.specs.declared.stage.Stage.TheVariants.{AtLine}
 use Rattle.http_front.specs.Chunks.{after_data, chunk_length}
 use Rattle.http_front.specs.Outcomes.{Part, Refused}

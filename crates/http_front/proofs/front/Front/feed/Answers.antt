@@ -1,4 +1,4 @@
-use Rattle.http_front.proofs.KeptLemmas.{kept_more}
+use Rattle.http_front.proofs.InsideLemmas.{kept_more}
 use Rattle.http_front.proofs.front.Front.feed.Goals as goal
 
 pub invariant_of-self : goal.invariant_of-self

@@ -4,7 +4,7 @@ use Rattle.http_front.specs.Advances.{AdvanceSays, IsAlways}
 use Rattle.http_front.specs.Answers.{NextSays, Waits}
 use Rattle.http_front.specs.Fronts.{FrontState}
 use Rattle.http_front.specs.Outcomes.{Part, Refused}
-use Rattle.http_front.proofs.KeptLemmas.{waits_from}
+use Rattle.http_front.proofs.InsideLemmas.{waits_from}
 use Rattle.http_front.proofs.front.Front.next_open.Goals as goal
 
 pub stop-requires-clause-first : goal.stop-requires-clause-first

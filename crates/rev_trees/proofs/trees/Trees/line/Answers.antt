@@ -1,5 +1,5 @@
 use Rattle.std.proofs.Common.{◌≡◌, Option, IfOk, subst}
-use Rattle.rev_trees.specs.declared.line.Line.{Line}
+use Rattle.rev_nodes.specs.declared.line.Line.{Line}
 use Rattle.rev_trees.proofs.Numbering.{line-of, length-of}
 use Rattle.rev_trees.proofs.trees.Trees.line.Goals as goal
 

@@ -1,6 +1,6 @@
 use Rattle.std.proofs.Common.{sym, subst}
-use Rattle.rev_trees.specs.declared.node.Node.{Node}
-use Rattle.rev_trees.specs.Forests.{IsNodeOf}
+use Rattle.rev_nodes.specs.declared.node.Node.{Node}
+use Rattle.rev_nodes.specs.Forests.{IsNodeOf}
 use Rattle.rev_trees.proofs.Numbering.{below-of, node-of}
 use Rattle.rev_trees.proofs.trees.Trees.node.Goals as goal
 

@@ -1,7 +1,0 @@
-/// Why a message is refused.
-#[derive(Clone, Copy, Debug)]
-pub(crate) enum Refusal {
-    BadMessage,
-    HeadTooLarge,
-    BodyTooLarge,
-}

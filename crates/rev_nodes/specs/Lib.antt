@@ -1,0 +1,9 @@
+pub mod Trees
+pub mod Changes
+pub mod ChangedPaths
+pub mod Pushes
+pub mod Forests
+pub mod Entries
+pub mod PropertyNames
+pub mod Formed
+pub mod Fitting

@@ -1,0 +1,26 @@
+//! Nodes, changes and commits of a repository as plain values, with all that is said of trees as flat lists.
+#![tactic(auto)]
+
+mod change;
+mod changed;
+mod commit;
+mod entry;
+mod kind;
+mod line;
+mod mark;
+mod node;
+mod node_id;
+mod property_name;
+mod unfit;
+
+pub use change::Change;
+pub use changed::Changed;
+pub use commit::Commit;
+pub use entry::Entry;
+pub use kind::Kind;
+pub use line::Line;
+pub use mark::Mark;
+pub use node::Node;
+pub use node_id::NodeId;
+pub use property_name::{is_property_name, is_revision_property};
+pub use unfit::Unfit;

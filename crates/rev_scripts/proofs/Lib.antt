@@ -1,0 +1,9 @@
+pub mod Extending
+pub mod ItemTurns
+pub mod ItemsBack
+pub mod MoreBehind
+pub mod ReadRevisions
+pub mod RevisionBack
+pub mod ScriptRows
+pub mod Spelled
+pub mod TextsBack

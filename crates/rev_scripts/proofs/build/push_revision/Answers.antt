@@ -1,0 +1,40 @@
+use Rattle.std.proofs.Common.{ℕ, List, sym, ◌∙◌}
+use Rattle.std.proofs.lemmas.Result.{err_from_is_err_and}
+use Rattle.rev_scripts.specs.Scripts.{with_read}
+use Rattle.rev_trees.specs.Readies.{revisions_of}
+use Rattle.rev_scripts.proofs.ReadRevisions.{head_fault, fault_next, unfit_next, whole_next, length-revisions_of}
+use Rattle.rev_scripts.proofs.build.push_revision.Goals as goal
+
+pub returns-in-Err-clause-value : goal.returns-in-Err-clause-value
+returns-in-Err-clause-value c =
+    let revisions = revisions_of c.args.trees.now in
+    let count = c.next_number-number.ensures ∙ sym (length-revisions_of c.args.trees.now) in
+    rw c.at.ensures (head_fault (with_read revisions) _ c.args.line c.args.text.now c.in-Err.fault (rw count at c.in-Err.ensures.value))
+
+pub returns-in-Err-read-clause-value : goal.returns-in-Err-read-clause-value
+returns-in-Err-read-clause-value c =
+    let head : ℕ × List ℕ × List ℕ = (c.in-Ok.head.0, c.in-Ok.head.1.now, c.in-Ok.head.2.now) in
+    let count = c.next_number-number.ensures ∙ sym (length-revisions_of c.args.trees.now) in
+    fault_next (revisions_of c.args.trees.now) c.next_number-number.result c.args.line c.args.text.now head c.read_items-read.new.told c.in-Err-read.fault c.first_fault.result count c.in-Ok.ensures.value
+    (rw (c.new-told.ensures, c.line_after-begins.ensures.value) at c.in-Err-read.ensures.told)
+    (rw (c.new-told.ensures, c.line_after-begins.ensures.value) at c.in-Err-read.ensures.after)
+    (rw c.in_ok-author.ensures at c.first_fault.ensures)
+
+pub returns-in_err-ready-clause-value : goal.returns-in_err-ready-clause-value
+returns-in_err-ready-clause-value c =
+    let p = err_from_is_err_and c.from_residual-in_err-ready.result c.from_residual-in_err-ready.ensures.1 in
+    let head : ℕ × List ℕ × List ℕ = (c.in-Ok.head.0, c.in-Ok.head.1.now, c.in-Ok.head.2.now) in
+    let count = c.next_number-number.ensures ∙ sym (length-revisions_of c.args.trees.now) in
+    rw (p.1, p.2) (unfit_next c.in_ok-author.author c.next_number-number.result c.args.line c.args.text.now head c.read_items-read.new.told (c.in-Ok-read.after.0, c.in-Ok-read.after.1.now) c.args.trees.now c.prepare_told.new.trees c.in_err-ready.field-0.0 c.in_ok-author.ensures count c.in-Ok.ensures.value
+    (rw (c.new-told.ensures, c.line_after-begins.ensures.value) at c.in-Ok-read.ensures.told)
+    (rw (c.new-told.ensures, c.line_after-begins.ensures.value) at c.in-Ok-read.ensures.after)
+    c.in_err-ready.ensures.says)
+
+pub returns-clause-value : goal.returns-clause-value
+returns-clause-value c =
+    let head : ℕ × List ℕ × List ℕ = (c.in-Ok.head.0, c.in-Ok.head.1.now, c.in-Ok.head.2.now) in
+    let count = c.next_number-number.ensures ∙ sym (length-revisions_of c.args.trees.now) in
+    whole_next c.next_number-number.result c.args.line c.args.text.now head c.read_items-read.new.told (c.in-Ok-read.after.0, c.in-Ok-read.after.1.now) c.args.trees.now c.prepare_told.new.trees c.push_ready.new.self c.in_ok-ready.ready count c.in-Ok.ensures.value
+    (rw (c.new-told.ensures, c.line_after-begins.ensures.value) at c.in-Ok-read.ensures.told)
+    (rw (c.new-told.ensures, c.line_after-begins.ensures.value) at c.in-Ok-read.ensures.after)
+    c.in_ok-ready.ensures.kept (rw c.in_ok-author.ensures at c.in_ok-ready.ensures.says.1) c.push_ready.ensures.pushes

@@ -1,0 +1,6 @@
+pub mod Steps
+pub mod Uuids
+pub mod Items
+pub mod Scripts
+pub mod Written
+pub mod Reading

@@ -1,0 +1,83 @@
+ghost use Rattle.std.specs.Prelude.{◌≡◌, ◌<◌, ◌≤◌, length, IfOk};
+ghost use Rattle.dsv_base.specs.Gives.{Gives, GivesBy};
+ghost use Rattle.rev_scripts.specs.Steps.{is_no_memory, longest};
+ghost use Rattle.rev_scripts.specs.Items.{two_lengths, three_lengths, copy_numbers, one_part, two_parts, three_parts};
+
+use crate::cursor::{after_front, bytes_from, number_from, word_from};
+use crate::item_fault::ItemFault;
+use dsv_base::Rev;
+
+/// No part of a script is longer.
+pub const LONGEST: u64 = 268_435_456;
+
+/// The lengths of an item with two parts.
+pub fn two_lengths(numbers: &[u8]) -> Result<(u64, u64), ItemFault>
+    ensures { Gives is_no_memory result (two_lengths numbers.now) }
+{
+    let (one, two) = word_from(numbers)?;
+    let one = number_from(LONGEST, one)?;
+    let two = number_from(LONGEST, two)?;
+    Ok((one, two))
+}
+
+/// The lengths of an item with three parts.
+pub fn three_lengths(numbers: &[u8]) -> Result<(u64, u64, u64), ItemFault>
+    ensures { Gives is_no_memory result (three_lengths numbers.now) }
+{
+    let (one, others) = word_from(numbers)?;
+    let one = number_from(LONGEST, one)?;
+    let (two, three) = two_lengths(others)?;
+    Ok((one, two, three))
+}
+
+/// The length of a copy's source, the revision that it is taken from, which is below `number`, and
+/// the length of the new path.
+pub fn copy_numbers(number: Rev, numbers: &[u8]) -> Result<(u64, u64, u64), ItemFault>
+    ensures value { Gives is_no_memory result (copy_numbers number numbers.now) }
+    ensures bound { IfOk result (λ x. x.1 < number) }
+{
+    let (source, others) = word_from(numbers)?;
+    let source = number_from(LONGEST, source)?;
+    let (rev, path) = word_from(others)?;
+    let rev = number_from(u64::from(Rev::MOST), rev)?;
+    let path = number_from(LONGEST, path)?;
+    if rev >= u64::from(number.get()) {
+        return Err(ItemFault::Bad);
+    }
+    Ok((source, rev, path))
+}
+
+/// The last part of an item, of so many bytes, and what stands after the line feed that ends it.
+pub fn one_part(size: u64, text: &[u8]) -> Result<(&[u8], &[u8]), ItemFault>
+    ensures value { GivesBy (λ x. (x.0.now, x.1.now)) is_no_memory result (one_part size text.now) }
+    ensures shorter { IfOk result (λ x. length x.1.now ≤ length text.now) }
+{
+    let (one, rest) = bytes_from(size, text)?;
+    let rest = after_front(b"\n", rest)?;
+    Ok((one, rest))
+}
+
+/// The last two parts.
+pub fn two_parts(first: u64, second: u64, text: &[u8]) -> Result<(&[u8], &[u8], &[u8]), ItemFault>
+    ensures value { GivesBy (λ x. (x.0.now, x.1.now, x.2.now)) is_no_memory result (two_parts first second text.now) }
+    ensures shorter { IfOk result (λ x. length x.2.now ≤ length text.now) }
+{
+    let (one, rest) = bytes_from(first, text)?;
+    let (two, rest) = one_part(second, rest)?;
+    Ok((one, two, rest))
+}
+
+/// The three parts of an item.
+pub fn three_parts(
+    first: u64,
+    second: u64,
+    third: u64,
+    text: &[u8],
+) -> Result<(&[u8], &[u8], &[u8], &[u8]), ItemFault>
+    ensures value { GivesBy (λ x. (x.0.now, x.1.now, x.2.now, x.3.now)) is_no_memory result (three_parts first second third text.now) }
+    ensures shorter { IfOk result (λ x. length x.3.now ≤ length text.now) }
+{
+    let (one, rest) = bytes_from(first, text)?;
+    let (two, three, rest) = two_parts(second, third, rest)?;
+    Ok((one, two, three, rest))
+}
