@@ -14,7 +14,9 @@ child_with name place = record { name = name; kind = place.here.node.kind }
 -- .. where that may be read
 abbrev pub shown_entry : (List ℕ → Bool) → Forest → ℕ → List ℕ → Entry → Option Child
 shown_entry reads forest rev directory entry =
-    if reads (join_text directory entry.name) then option_map (child_with entry.name) (place_at forest rev (join_text directory entry.name)) else None
+    if reads (join_text directory entry.name)
+    then option_map (child_with entry.name) (place_at forest rev (join_text directory entry.name))
+    else None
 
 -- .. of each of these entries that may be read
 abbrev pub shown_entries : (List ℕ → Bool) → Forest → ℕ → List ℕ → List Entry → List Child

@@ -37,8 +37,8 @@ pub record IsEntryOf (call : Call) (entry : HistoryEntry) : Type 0 where
   pub person : Person
   pub login : call.request.login ≡ User person
   pub event :
-    (effect : Effect)
-    × (entry.event ≡ record { pass = call.pass; user = person.number; moment = call.moment; effect = effect })
+      (effect : Effect)
+      × (entry.event ≡ record { pass = call.pass; user = person.number; moment = call.moment; effect = effect })
   pub name : entry.name ≡ person.name
 
 -- ---- over a history that nobody else extends: what a hub promises

@@ -3,7 +3,9 @@ ghost use Rattle.std.specs.Option.{option_copied};
 ghost use Rattle.dsv_base.specs.Gives.{Gives, GivesBy};
 ghost use Rattle.dav_names.specs.Targets.{target};
 ghost use Rattle.dav_replies.specs.Faults.{refusal_no_memory};
-ghost use Rattle.dav_machine.specs.Chains.{or_bad_target, kind_of, by_method, asked_by, viewer, by_login, aim_of, by_rule, denied, IsReadable, permit_of, permitted, is_head_method, is_head};
+ghost use Rattle.dav_machine.specs.Chains.{or_bad_target, kind_of, by_method, asked_by, viewer, by_login};
+ghost use Rattle.dav_machine.specs.Chains.{aim_of, by_rule, denied, permit_of, permitted, is_head_method, is_head};
+ghost use Rattle.dav_machine.specs.Presents.{MayRead};
 
 use crate::aim::aim_of;
 use crate::asked::Asked;
@@ -31,15 +33,11 @@ pub fn permitted<'a>(
     present: &Present,
     request: &'a Request,
 ) -> Result<Permit<'a>, Refusal>
-    ensures value {
-        GivesBy (λ p. permit_of p.resource p.asked) refusal_no_memory result
-        (permitted present.now.trees.name present.now.rules request.now)
-    }
+    ensures value { GivesBy (λ p. permit_of p.resource p.asked) refusal_no_memory result
+        (permitted present.now.trees.name present.now.rules request.now) }
     ensures user { IfOk result (λ p. option_copied p.user ≡ viewer request.now.login) }
-    ensures readable {
-        IfOk result
-        (λ p. IsReadable present.now.rules present.now.trees.name (option_copied p.user) (aim_of p.asked p.resource).path)
-    }
+    ensures readable { IfOk result
+        (λ p. MayRead present.now (option_copied p.user) (aim_of p.asked p.resource).path) }
 {
     let resource = by_target(alloc, present.root(), request.target.get())?;
     let method = by_method(kind_of(&resource), request.method.get())?;
@@ -136,14 +134,10 @@ fn by_rule<'a>(
     user: Option<&[u8]>,
     path: Option<&'a Path>,
 ) -> Result<Option<&'a Path>, Refusal>
-    ensures value {
-        GivesBy option_copied refusal_no_memory result
-        (by_rule present.now.rules present.now.trees.name (option_copied user.entry) (option_copied path.entry))
-    }
-    ensures readable {
-        IfOk result
-        (λ p. IsReadable present.now.rules present.now.trees.name (option_copied user.entry) (option_copied path.entry))
-    }
+    ensures value { GivesBy option_copied refusal_no_memory result
+        (by_rule present.now.rules present.now.trees.name (option_copied user.entry) (option_copied path.entry)) }
+    ensures readable { IfOk result
+        (λ p. MayRead present.now (option_copied user.entry) (option_copied path.entry)) }
 {
     match path {
         None => Ok(None),

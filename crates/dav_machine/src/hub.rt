@@ -44,12 +44,12 @@ impl<K: Keeper> Model for Hub<K> {
     ghost Value = { HubState K };
 
     ghost view = { λ h. record {
-        opening = state_of h.opening.value;
-        trees = h.present.trees;
-        rules = h.present.rules;
-        history = entries_of h.history.items h.names.items;
-        first_keeper = h.first_keeper.value;
-        keeper = h.keeper;
+      opening = state_of h.opening.value;
+      trees = h.present.trees;
+      rules = h.present.rules;
+      history = entries_of h.history.items h.names.items;
+      first_keeper = h.first_keeper.value;
+      keeper = h.keeper;
     } };
 
     // As yet nothing is done, and the keeper is as it was.
@@ -57,7 +57,7 @@ impl<K: Keeper> Model for Hub<K> {
         (length h.names.items ≡ length h.history.items)
         × (h.keeper ≡ h.first_keeper.value)
         × IsHubOf (state_of h.opening.value) (state_of h.present) (entries_of h.history.items h.names.items)
-            (K.faults h.first_keeper.value) (K.faults h.keeper) };
+        (K.faults h.first_keeper.value) (K.faults h.keeper) };
 }
 
 impl<K: Keeper> Hub<K> {
@@ -123,10 +123,8 @@ impl<K: Keeper> Hub<K> {
     /// What holds of each hub, which contracts don't see by themselves: the state is that which the
     /// history makes of the opening one. As long as no request changes anything, the keeper is as it was.
     pub fn learn(&self)
-        ensures holds {
-            IsHubOf self.now.opening (present_state self.now) self.now.history
-            (K.faults self.now.first_keeper) (K.faults self.now.keeper)
-        }
+        ensures holds { IsHubOf self.now.opening (present_state self.now) self.now.history
+            (K.faults self.now.first_keeper) (K.faults self.now.keeper) }
         ensures untouched { self.now.keeper ≡ self.now.first_keeper }
     {
         let _count = self.history.len();

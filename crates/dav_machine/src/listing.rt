@@ -2,14 +2,13 @@ ghost use Rattle.std.specs.Prelude.{◌≡◌, ◌++◌, IfOk, OnOk, IsTrue, Som
 ghost use Rattle.std.specs.List.{All};
 ghost use Rattle.std.specs.Option.{option_copied};
 ghost use Rattle.dsv_base.specs.Paths.{is_path, join_text};
-ghost use Rattle.authz_check.specs.Access.{can_read};
-ghost use Rattle.rev_nodes.specs.Forests.{repository_of, id_at};
+ghost use Rattle.rev_nodes.specs.Forests.{id_at};
 ghost use Rattle.dav_documents.specs.Drafts.{with_elements};
 ghost use Rattle.dav_documents.specs.Written.{for_each};
-ghost use Rattle.dav_names.specs.Targets.{root_of};
 ghost use Rattle.dav_names.specs.Written.{target_text};
-ghost use Rattle.log_access.specs.Shown.{shown_of, nodes_in};
+ghost use Rattle.log_access.specs.Shown.{nodes_in};
 ghost use Rattle.dav_machine.specs.Listings.{children_in, at_path, slash_of, link_item, item_of, listing_text};
+ghost use Rattle.dav_machine.specs.Presents.{root_in, may_read, shown_to};
 ghost use Rattle.dav_machine.specs.ShownEntries.{shown_entry, shown_entries, StandsIn};
 
 use crate::asked_path::AskedPath;
@@ -30,13 +29,11 @@ pub fn listing(
     id: NodeId,
 ) -> Result<Bytes, NoMemory>
     requires number { id_at present.now.trees at.now.rev at.now.path.now ≡ Some id }
-    ensures {
-        IfOk result
-        (λ page. page ≡ listing_text (root_of present.now.trees.name) at.now.resource.now at.now.path.now
-            (children_in
-                (nodes_in (shown_of (repository_of present.now.trees) present.now.rules (option_copied user.entry)) at.now.rev)
-                at.now.path.now))
-    }
+    ensures { IfOk result
+        (λ page. page ≡ listing_text (root_in present.now) at.now.resource.now at.now.path.now
+        (children_in
+        (nodes_in (shown_to present.now (option_copied user.entry)) at.now.rev)
+        at.now.path.now)) }
 {
     let entries = present.trees().entries(id);
     let mut out = Writer::behind(alloc, b"<html><body><ul>")?;
@@ -54,14 +51,12 @@ fn put_entries(
     entries: &[Entry],
 ) -> Result<(), NoMemory>
     requires stand { All (StandsIn present.now.trees at.now.rev at.now.path.now) entries.now }
-    ensures {
-        OnOk result
+    ensures { OnOk result
         (out.new ≡ with_elements
-            (for_each (item_of (root_of present.now.trees.name) at.now.resource.now at.now.path.now)
-                (shown_entries (can_read present.now.rules present.now.trees.name (option_copied user.entry))
-                    present.now.trees at.now.rev at.now.path.now entries.now))
-            out.old)
-    }
+        (for_each (item_of (root_in present.now) at.now.resource.now at.now.path.now)
+        (shown_entries (may_read present.now (option_copied user.entry))
+        present.now.trees at.now.rev at.now.path.now entries.now))
+        out.old) }
 {
     'entries: for entry in entries {
         put_entry(alloc, out, present, user, at, entry)?;
@@ -79,15 +74,13 @@ fn put_entry(
     entry: &Entry,
 ) -> Result<(), NoMemory>
     requires stands { StandsIn present.now.trees at.now.rev at.now.path.now entry.now }
-    ensures {
-        OnOk result
+    ensures { OnOk result
         (out.new ≡ with_elements
-            (for_each (item_of (root_of present.now.trees.name) at.now.resource.now at.now.path.now)
-                (option_to_list
-                    (shown_entry (can_read present.now.rules present.now.trees.name (option_copied user.entry))
-                        present.now.trees at.now.rev at.now.path.now entry.now)))
-            out.old)
-    }
+        (for_each (item_of (root_in present.now) at.now.resource.now at.now.path.now)
+        (option_to_list
+        (shown_entry (may_read present.now (option_copied user.entry))
+        present.now.trees at.now.rev at.now.path.now entry.now)))
+        out.old) }
 {
     let path = child_path(at.path, entry.name.get())?;
     if !present.can_read(user, &path) {
@@ -107,7 +100,9 @@ fn put_item(
     name: &[u8],
     kind: Kind,
 ) -> Result<(), NoMemory>
-    ensures { OnOk result (out.new ≡ with_elements (link_item (target_text root.now child.now ++ slash_of kind) (name.now ++ slash_of kind)) out.old) }
+    ensures { OnOk result
+        (out.new ≡ with_elements
+        (link_item (target_text root.now child.now ++ slash_of kind) (name.now ++ slash_of kind)) out.old) }
 {
     let mut href = write_target(alloc, root, child)?.into_vec();
     href.extend_from_slice(slash_of(kind))?;

@@ -1,16 +1,12 @@
 ghost use Rattle.std.specs.Prelude.{◌≡◌, ◌-◌, ◌<◌, IfOk, true, Ok, Some, length, option_to_list};
 ghost use Rattle.std.specs.Option.{option_copied};
 ghost use Rattle.dsv_base.specs.Gives.{Gives};
-ghost use Rattle.authz_check.specs.Access.{can_read};
-ghost use Rattle.rev_nodes.specs.Forests.{repository_of, id_at};
-ghost use Rattle.dav_names.specs.Targets.{root_of};
+ghost use Rattle.rev_nodes.specs.Forests.{id_at};
 ghost use Rattle.dav_replies.specs.Faults.{refusal_no_memory};
 ghost use Rattle.dav_replies.specs.Replies.{IsWritable};
-ghost use Rattle.log_access.specs.Shown.{shown_of};
-ghost use Rattle.dav_machine.specs.Chains.{IsReadable, aim_of, permit_of};
-ghost use Rattle.dav_machine.specs.Presents.{state_of};
+ghost use Rattle.dav_machine.specs.Chains.{aim_of, permit_of};
+ghost use Rattle.dav_machine.specs.Presents.{root_in, may_read, MayRead, shown_to, view_to};
 ghost use Rattle.dav_machine.specs.Replies.{options_reply};
-ghost use Rattle.dav_machine.specs.Views.{view_of};
 ghost use Rattle.dav_machine.specs.ReadReplies.{read_answer, asked_reply, content_at, get_reply, by_revisions};
 
 use crate::aim::aim_of;
@@ -37,13 +33,9 @@ pub fn read_answer(
     asked: Asked,
     resource: &Resource,
 ) -> Result<Reply, Refusal>
-    requires readable {
-        IsReadable present.now.rules present.now.trees.name (option_copied user) (aim_of asked resource.now).path
-    }
-    ensures value {
-        Gives refusal_no_memory result
-        (read_answer (view_of (state_of present.now) (option_copied user.entry)) (permit_of resource.now asked))
-    }
+    requires readable { MayRead present.now (option_copied user) (aim_of asked resource.now).path }
+    ensures value { Gives refusal_no_memory result
+        (read_answer (view_to present.now (option_copied user.entry)) (permit_of resource.now asked)) }
     ensures writable { IfOk result IsWritable }
 {
     let aim = aim_of(asked, resource);
@@ -53,9 +45,8 @@ pub fn read_answer(
 
 /// The revision that is meant: the one that is named, which has to be there, or the youngest.
 fn by_revisions(trees: &Trees, named: Option<Rev>) -> Result<Rev, Refusal>
-    ensures value {
-        Gives refusal_no_memory result (by_revisions (length trees.now.revisions - 1) (option_to_list named))
-    }
+    ensures value { Gives refusal_no_memory result
+        (by_revisions (length trees.now.revisions - 1) (option_to_list named)) }
     ensures there { IfOk result (λ rev. rev < length trees.now.revisions) }
 {
     let youngest = trees.youngest();
@@ -80,14 +71,11 @@ fn asked_reply(
     rev: Rev,
     path: Option<&Path>,
 ) -> Result<Reply, Refusal>
-    requires readable {
-        IsReadable present.now.rules present.now.trees.name (option_copied user) (option_copied path)
-    }
+    requires readable { MayRead present.now (option_copied user) (option_copied path) }
     requires there { rev < length present.now.trees.revisions }
-    ensures value {
-        Gives refusal_no_memory result
-        (asked_reply (view_of (state_of present.now) (option_copied user.entry)) asked resource.now rev (option_copied path.entry))
-    }
+    ensures value { Gives refusal_no_memory result
+        (asked_reply (view_to present.now (option_copied user.entry))
+        asked resource.now rev (option_copied path.entry)) }
     ensures writable { IfOk result IsWritable }
 {
     match asked {
@@ -99,19 +87,13 @@ fn asked_reply(
 
 /// What the server can do, and where its resources are.
 fn what_the_server_can(alloc: Global, present: &Present) -> Result<Reply, Refusal>
-    ensures value {
-        Gives refusal_no_memory result
-        (Ok (options_reply (root_of present.now.trees.name) present.now.trees.uuid (length present.now.trees.revisions - 1)))
-    }
+    ensures value { Gives refusal_no_memory result
+        (Ok (options_reply (root_in present.now) present.now.trees.uuid
+        (length present.now.trees.revisions - 1))) }
     ensures writable { IfOk result IsWritable }
 {
     let trees = present.trees();
-    Ok(options_reply(
-        alloc,
-        present.root(),
-        trees.uuid(),
-        trees.youngest(),
-    )?)
+    Ok(options_reply(alloc, present.root(), trees.uuid(), trees.youngest())?)
 }
 
 /// The content of the node at the path, where the resource names one.
@@ -123,14 +105,11 @@ fn content_at(
     rev: Rev,
     path: Option<&Path>,
 ) -> Result<Reply, Refusal>
-    requires readable {
-        IsReadable present.now.rules present.now.trees.name (option_copied user) (option_copied path)
-    }
+    requires readable { MayRead present.now (option_copied user) (option_copied path) }
     requires there { rev < length present.now.trees.revisions }
-    ensures value {
-        Gives refusal_no_memory result
-        (content_at (shown_of (repository_of present.now.trees) present.now.rules (option_copied user.entry)) resource.now rev (option_copied path.entry))
-    }
+    ensures value { Gives refusal_no_memory result
+        (content_at (shown_to present.now (option_copied user.entry))
+        resource.now rev (option_copied path.entry)) }
     ensures writable { IfOk result IsWritable }
 {
     match path {
@@ -149,14 +128,11 @@ fn get_reply(
     user: Option<&[u8]>,
     at: &AskedPath<'_>,
 ) -> Result<Reply, Refusal>
-    requires readable {
-        can_read present.now.rules present.now.trees.name (option_copied user) at.now.path.now ≡ true
-    }
+    requires readable { may_read present.now (option_copied user) at.now.path.now ≡ true }
     requires there { at.now.rev < length present.now.trees.revisions }
-    ensures value {
-        Gives refusal_no_memory result
-        (get_reply (shown_of (repository_of present.now.trees) present.now.rules (option_copied user.entry)) at.now.resource.now at.now.rev at.now.path.now)
-    }
+    ensures value { Gives refusal_no_memory result
+        (get_reply (shown_to present.now (option_copied user.entry))
+        at.now.resource.now at.now.rev at.now.path.now) }
     ensures writable { IfOk result IsWritable }
 {
     match present.trees().look(at.rev, at.path) {
@@ -174,14 +150,11 @@ fn node_reply(
     at: &AskedPath<'_>,
     id: NodeId,
 ) -> Result<Reply, Refusal>
-    requires readable {
-        can_read present.now.rules present.now.trees.name (option_copied user) at.now.path.now ≡ true
-    }
+    requires readable { may_read present.now (option_copied user) at.now.path.now ≡ true }
     requires number { id_at present.now.trees at.now.rev at.now.path.now ≡ Some id }
-    ensures value {
-        Gives refusal_no_memory result
-        (get_reply (shown_of (repository_of present.now.trees) present.now.rules (option_copied user.entry)) at.now.resource.now at.now.rev at.now.path.now)
-    }
+    ensures value { Gives refusal_no_memory result
+        (get_reply (shown_to present.now (option_copied user.entry))
+        at.now.resource.now at.now.rev at.now.path.now) }
     ensures writable { IfOk result IsWritable }
 {
     let node = present.trees().node(id);

@@ -20,10 +20,9 @@ use std::alloc::Global;
 /// Want of memory.
 #[tactic(auto, unfolding(crate::specs::AllReplies::reply_to))]
 pub fn reply_to(alloc: Global, present: &Present, request: &Request) -> Result<Reply, NoMemory>
-    ensures value {
-        IfOk result
-        (λ reply. (moment : ℕ) (kept : Bool) → reply_to (state_of present.now) request.now moment kept ≡ (reply, None))
-    }
+    ensures value { IfOk result
+        (λ reply. (moment : ℕ) (kept : Bool)
+        → reply_to (state_of present.now) request.now moment kept ≡ (reply, None)) }
     ensures writable { IfOk result IsWritable }
 {
     match answered(alloc, present, request) {
@@ -36,10 +35,9 @@ pub fn reply_to(alloc: Global, present: &Present, request: &Request) -> Result<R
 /// What is answered, or the first refusal that holds.
 #[tactic(auto, unfolding(crate::specs::AllReplies::answered))]
 fn answered(alloc: Global, present: &Present, request: &Request) -> Result<Reply, Refusal>
-    ensures value {
-        (moment : ℕ) (kept : Bool)
-        → GivesBy (λ reply. (reply, None)) refusal_no_memory result (answered (state_of present.now) request.now moment kept)
-    }
+    ensures value { (moment : ℕ) (kept : Bool)
+        → GivesBy (λ reply. (reply, None)) refusal_no_memory result
+        (answered (state_of present.now) request.now moment kept) }
     ensures writable { IfOk result IsWritable }
 {
     let permit = permitted(alloc, present, request)?;

@@ -34,9 +34,8 @@ pub trait Turn {
     fn act(&mut self, call: &Call) -> Answer
         requires pass { call.now.pass ≡ pass self.old }
         requires named { IsNamed call.now.request.login }
-        ensures turned {
-            Turned (opening self.old) (front self.old) (pass self.old) call.now result (front self.new)
-        }
+        ensures turned { Turned (opening self.old) (front self.old) (pass self.old)
+            call.now result (front self.new) }
         ensures opening { opening self.new ≡ opening self.old }
         ensures pass { pass self.new ≡ pass self.old }
         ensures origin { origin self.new ≡ origin self.old };
