@@ -62,6 +62,7 @@ fn by_revisions(trees: &Trees, named: Option<Rev>) -> Result<Rev, Refusal>
 }
 
 /// What is answered of this revision and path, by what is asked for.
+#[tactic(auto, using(crate::proofs::Getting::options_shown))]
 fn asked_reply(
     alloc: Global,
     present: &Present,
