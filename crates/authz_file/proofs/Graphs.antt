@@ -8,7 +8,7 @@ use Rattle.std.proofs.lemmas.List.{take_more, length-map}
 use Rattle.std.proofs.lemmas.List.Elements.{filter_map-append}
 use Rattle.authz_file.specs.declared.section_entry.SectionEntry.{SectionEntry}
 use Rattle.authz_file.specs.Words.{is_user}
-use Rattle.authz_file.specs.Groups.{last_from, named_at, place_of_label, target, targets}
+use Rattle.authz_file.specs.Groups.{last_from, named_at, place_of_label, definition_of, targets}
 use Rattle.authz_file.specs.Searching.{Has, IsGraph}
 use Rattle.authz_file.proofs.Reach.{or_true, equal}
 
@@ -41,30 +41,30 @@ place_within es label = either (last_from 0 es label) (last_within es 0 label)
     either None h = tt
     either (Some p) h = omega arith
 
-target_within : (es : List SectionEntry) (word : List ℕ) → IfSome (target es word) (λ p. p < length es)
+target_within : (es : List SectionEntry) (word : List ℕ) → IfSome (definition_of es word) (λ p. p < length es)
 target_within es word = either (is_user word)
   where
     either : (b : Bool) → IfSome (if b then None else place_of_label es word) (λ p. p < length es)
     either true = tt
     either false = place_within es word
 
-targets_within : (es : List SectionEntry) (words : List (List ℕ)) (named : ℕ) → Has (filter_map (target es) words) named → named < length es
+targets_within : (es : List SectionEntry) (words : List (List ℕ)) (named : ℕ) → Has (filter_map (definition_of es) words) named → named < length es
 targets_within es [] named h = cc
-targets_within es (w ∷ ws) named h = either (target es w) (target_within es w) (targets_within es ws named) h
+targets_within es (w ∷ ws) named h = either (definition_of es w) (target_within es w) (targets_within es ws named) h
   where
-    either : (o : Option ℕ) → IfSome o (λ p. p < length es) → (Has (filter_map (target es) ws) named → named < length es) → Has (cons_option o (filter_map (target es) ws)) named → named < length es
+    either : (o : Option ℕ) → IfSome o (λ p. p < length es) → (Has (filter_map (definition_of es) ws) named → named < length es) → Has (cons_option o (filter_map (definition_of es) ws)) named → named < length es
     either None k rest g = rest g
-    either (Some p) k rest g = ⊎_elim (λ e. subst (λ i. i < length es) (sym (equal named p e)) k) rest (or_true (nat_eq named p) (list_any (nat_eq named) (filter_map (target es) ws)) g)
+    either (Some p) k rest g = ⊎_elim (λ e. subst (λ i. i < length es) (sym (equal named p e)) k) rest (or_true (nat_eq named p) (list_any (nat_eq named) (filter_map (definition_of es) ws)) g)
 
-named_within : (all es : List SectionEntry) (place named : ℕ) → Has (named_at (map (λ e. filter_map (target all) e.words) es) place) named → named < length all
+named_within : (all es : List SectionEntry) (place named : ℕ) → Has (named_at (map (λ e. filter_map (definition_of all) e.words) es) place) named → named < length all
 named_within all [] place named h = cc
 named_within all (e ∷ es) zero named h = targets_within all e.words named h
 named_within all (e ∷ es) (suc place) named h = named_within all es place named h
 
 pub targets-length : (es : List SectionEntry) → length (targets es) ≡ length es
 unfolding targets
-targets-length es = length-map es (λ e. filter_map (target es) e.words)
+targets-length es = length-map es (λ e. filter_map (definition_of es) e.words)
 
 pub targets-IsGraph : (es : List SectionEntry) → IsGraph (targets es)
 unfolding targets
-targets-IsGraph es = λ place named h. subst (λ n. named < n) (sym (length-map es (λ e. filter_map (target es) e.words))) (named_within es es place named h)
+targets-IsGraph es = λ place named h. subst (λ n. named < n) (sym (length-map es (λ e. filter_map (definition_of es) e.words))) (named_within es es place named h)

@@ -15,7 +15,7 @@ use Rattle.std.proofs.lemmas.List.Folds.{list_any-append}
 use Rattle.std.proofs.lemmas.Map.Lookups.{btree_set_from_contains, exact_bytes}
 use Rattle.std.proofs.lemmas.Map.Text.{is_eq-slice_cmp}
 use Rattle.authz_file.specs.Words.{is_user}
-use Rattle.authz_file.specs.Groups.{with_name, in_order}
+use Rattle.authz_file.specs.Groups.{with_name, names_in_order}
 use Rattle.authz_file.specs.Searching.{Has, with_names}
 use Rattle.authz_file.proofs.Reach.{same, or_true, or_left, or_right, or_none, equal}
 
@@ -51,10 +51,10 @@ with_name-any q name (n ∷ ns) = either (order name n) refl (with_name-any q na
     either Equal e h = or_same (bytes_eq q n) (is_among q ns) ∙ ap (λ x. (bytes_eq q n || is_among q ns) || bytes_eq q x) (sym (exact_bytes name n e))
     either Greater e h = ap (λ b. bytes_eq q n || b) h ∙ or_moved (bytes_eq q n) (is_among q ns) (bytes_eq q name)
 
-in_order-any : (q : List ℕ) (names : List (List ℕ)) → is_among q (in_order names) ≡ is_among q names
-unfolding in_order
+in_order-any : (q : List ℕ) (names : List (List ℕ)) → is_among q (names_in_order names) ≡ is_among q names
+unfolding names_in_order
 in_order-any q [] = refl
-in_order-any q (n ∷ ns) = with_name-any q n (in_order ns) ∙ ap (λ b. b || bytes_eq q n) (in_order-any q ns) ∙ or_flip (is_among q ns) (bytes_eq q n)
+in_order-any q (n ∷ ns) = with_name-any q n (names_in_order ns) ∙ ap (λ b. b || bytes_eq q n) (in_order-any q ns) ∙ or_flip (is_among q ns) (bytes_eq q n)
 
 with_names-any : (q : List ℕ) (names ns : List (List ℕ)) → is_among q (with_names ns names) ≡ (is_among q ns || is_among q names)
 with_names-any q [] ns = sym (or_none (is_among q ns))
@@ -92,10 +92,10 @@ sorted_name (n ∷ ns) name s = either (order name n) refl (sorted_name ns name 
     either Equal e r = s
     either Greater e r = (after_name n name ns (nat_list_cmp_total.antisymm n name ∙ ap ordering_reverse e) s.0, r)
 
-in_order-sorted : (names : List (List ℕ)) → IsInOrder (in_order names)
-unfolding in_order IsStrictlySortedBy
+in_order-sorted : (names : List (List ℕ)) → IsInOrder (names_in_order names)
+unfolding names_in_order IsStrictlySortedBy
 in_order-sorted [] = tt
-in_order-sorted (n ∷ ns) = sorted_name (in_order ns) n (in_order-sorted ns)
+in_order-sorted (n ∷ ns) = sorted_name (names_in_order ns) n (in_order-sorted ns)
 
 with_names-sorted : (names ns : List (List ℕ)) → IsInOrder ns → IsInOrder (with_names ns names)
 with_names-sorted [] ns s = s
@@ -110,12 +110,12 @@ compared q [] = refl
 compared q (n ∷ ns) = ap (λ b. b || list_any (λ k. is_eq (slice_cmp nat_cmp q k)) ns) (is_eq-slice_cmp q n) ∙ ap (λ b. bytes_eq q n || b) (compared q ns)
 
 -- lists with the same names
-pub names_same : (one other : List (List ℕ)) → ((q : List ℕ) → is_among q one ≡ is_among q other) → with_names [] one ≡ in_order other
+pub names_same : (one other : List (List ℕ)) → ((q : List ℕ) → is_among q one ≡ is_among q other) → with_names [] one ≡ names_in_order other
 names_same one other h =
     let s : BTreeSet (List ℕ) = record { keys = with_names [] one } in
-    let t : BTreeSet (List ℕ) = record { keys = in_order other } in
+    let t : BTreeSet (List ℕ) = record { keys = names_in_order other } in
     btree_set_from_contains nat_list_cmp_total s t (with_names-sorted one [] none-sorted) (in_order-sorted other)
-    (λ q. compared q (with_names [] one) ∙ with_names-any q one [] ∙ h q ∙ sym (in_order-any q other) ∙ sym (compared q (in_order other)))
+    (λ q. compared q (with_names [] one) ∙ with_names-any q one [] ∙ h q ∙ sym (in_order-any q other) ∙ sym (compared q (names_in_order other)))
     exact_bytes
 
 -- ---- names one after another

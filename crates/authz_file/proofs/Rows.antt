@@ -20,7 +20,7 @@ use Rattle.authz_file.specs.Lines.{continued, joined_lines}
 use Rattle.authz_file.specs.Words.{key_value, words_of, who_of, right_of}
 use Rattle.authz_file.specs.Sections.{section_path, split_repos, place_of, section_named}
 use Rattle.authz_file.specs.Entries.{group_entry, alias_entry, grant_entry, entry_at, entries_of, file_entries}
-use Rattle.authz_file.specs.Groups.{place_of_label, targets, reached, in_order, names_at}
+use Rattle.authz_file.specs.Groups.{place_of_label, targets, reached, names_in_order, names_at}
 use Rattle.authz_file.specs.Resolving.{entry_fault, entry_rule, resolved, rules_of}
 
 abbrev file : List (List ℕ) → List ℕ
@@ -77,5 +77,5 @@ answers =
     ∷ []
 
 rows : map rules_of files ≡ answers
-unfolding rules_of resolved entry_fault entry_rule names_at in_order reached targets place_of_label file_entries entries_of entry_at grant_entry alias_entry group_entry section_named place_of split_repos section_path right_of who_of words_of key_value joined_lines continued file_lines lines_of is_path is_repository_name is_utf8 chars encode
+unfolding rules_of resolved entry_fault entry_rule names_at names_in_order reached targets place_of_label file_entries entries_of entry_at grant_entry alias_entry group_entry section_named place_of split_repos section_path right_of who_of words_of key_value joined_lines continued file_lines lines_of is_path is_repository_name is_utf8 chars encode
 rows = refl

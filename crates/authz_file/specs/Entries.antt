@@ -39,15 +39,15 @@ grant_entry place line key value =
     Ok (record { line = line; label = place_name place.repos place.path ++ 10 ∷ key; words = own_words who (principal_of key); grant = Some (record { place = place; negated = is_negated key; who = who; right = right }) })))
 
 -- a line that stands before the first section gives no entry
-abbrev pub entry_in : Option Section → ℕ → List ℕ → List ℕ → Result SectionEntry RulesFault
-entry_in None line key value = Err (BadLine line)
-entry_in (Some Groups) line key value = group_entry line key value
-entry_in (Some Aliases) line key value = alias_entry line key value
-entry_in (Some (At place)) line key value = grant_entry place line key value
+abbrev pub entry_under : Option Section → ℕ → List ℕ → List ℕ → Result SectionEntry RulesFault
+entry_under None line key value = Err (BadLine line)
+entry_under (Some Groups) line key value = group_entry line key value
+entry_under (Some Aliases) line key value = alias_entry line key value
+entry_under (Some (At place)) line key value = grant_entry place line key value
 
 -- the entry of a line in this section, or the refusal of the line
 unfoldable pub entry_at : Option Section → ℕ → List ℕ → Result SectionEntry RulesFault
-entry_at section line text = ok_or (key_value text) (BadLine line) >>= (λ p. entry_in section line p.0 p.1)
+entry_at section line text = ok_or (key_value text) (BadLine line) >>= (λ p. entry_under section line p.0 p.1)
 
 -- the entries of the lines that come in this section
 unfoldable pub entries_of : Option Section → List JoinedLine → Result (List SectionEntry) RulesFault

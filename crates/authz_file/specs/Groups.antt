@@ -18,12 +18,12 @@ unfoldable pub place_of_label : List SectionEntry → List ℕ → Option ℕ
 place_of_label entries label = last_from 0 entries label
 
 -- what a word names: a definition, unless it is the name of a user
-abbrev pub target : List SectionEntry → List ℕ → Option ℕ
-target entries word = if is_user word then None else place_of_label entries word
+abbrev pub definition_of : List SectionEntry → List ℕ → Option ℕ
+definition_of entries word = if is_user word then None else place_of_label entries word
 
 -- per entry the places of the definitions that its words name
 unfoldable pub targets : List SectionEntry → List (List ℕ)
-targets entries = map (λ e. filter_map (target entries) e.words) entries
+targets entries = map (λ e. filter_map (definition_of entries) e.words) entries
 
 -- the places that the entry at this place names
 abbrev pub named_at : List (List ℕ) → ℕ → List ℕ
@@ -48,9 +48,9 @@ with_name [] name = name ∷ []
 with_name (n ∷ ns) name = match_ordering (slice_cmp nat_cmp name n) (name ∷ n ∷ ns) (n ∷ ns) (n ∷ with_name ns name)
 
 -- names in byte order, each once
-unfoldable pub in_order : List (List ℕ) → List (List ℕ)
-in_order [] = []
-in_order (name ∷ names) = with_name (in_order names) name
+unfoldable pub names_in_order : List (List ℕ) → List (List ℕ)
+names_in_order [] = []
+names_in_order (name ∷ names) = with_name (names_in_order names) name
 
 -- the users that an entry names by itself
 abbrev pub own_users : SectionEntry → List (List ℕ)
@@ -62,4 +62,4 @@ users_at entries place = slice_index_or (map own_users entries) place []
 
 -- all users that the entry at this place names, by itself and by way of groups and aliases
 unfoldable pub names_at : List SectionEntry → ℕ → List (List ℕ)
-names_at entries place = in_order (flat_map (users_at entries) (reached_by (targets entries) (place ∷ [])))
+names_at entries place = names_in_order (flat_map (users_at entries) (reached_by (targets entries) (place ∷ [])))

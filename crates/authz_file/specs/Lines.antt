@@ -1,6 +1,6 @@
 -- The lines of a rules file: without those that are skipped, and each with the lines that continue it.
-use Rattle.std.specs.Prelude.{ℕ, ◌+◌, Bool, ◌||◌, not, List, [], ◌∷◌, ◌++◌, if◌then◌else◌}
-use Rattle.dsv_base.specs.TextFiles.{begins_with, is_skipped, without_front}
+use Rattle.std.specs.Prelude.{ℕ, ◌+◌, Bool, ◌||◌, not, List, [], ◌∷◌, ◌++◌, Option, if◌then◌else◌}
+use Rattle.dsv_base.specs.TextFiles.{begins_with, is_skipped, lines_left, without_front}
 use Rattle.authz_file.specs.declared.joined_line.JoinedLine.{JoinedLine}
 use Rattle.authz_file.specs.declared.joined_line.JoinedLine.TheVariants.{Head, Body, Stray}
 
@@ -9,8 +9,8 @@ abbrev pub is_indented : List ℕ → Bool
 is_indented line = begins_with 32 line || begins_with 9 line
 
 -- it begins with `[`
-abbrev pub is_head : List ℕ → Bool
-is_head line = begins_with 91 line
+abbrev pub begins_section : List ℕ → Bool
+begins_section line = begins_with 91 line
 
 -- what a line and those after it add to the line before them
 abbrev pub line_adds : List ℕ → List ℕ → List ℕ
@@ -26,11 +26,15 @@ abbrev pub line_gives : Bool → ℕ → List ℕ → List ℕ → List JoinedLi
 line_gives begun number line more =
     if is_skipped line then [] else
     if is_indented line then (if begun then [] else Stray number ∷ []) else
-    if is_head line then Head number line ∷ [] else Body number (line ++ more) ∷ []
+    if begins_section line then Head number line ∷ [] else Body number (line ++ more) ∷ []
+
+-- what a line is, where the lines of this text stand after it
+abbrev pub line_before : Bool → ℕ → List ℕ → Option (List ℕ) → List JoinedLine
+line_before begun number line after = line_gives begun number line (continued (lines_left after))
 
 -- whether the next line may continue one: not at the start of the file, and not after the line of a section
 abbrev pub opens : Bool → List ℕ → Bool
-opens begun line = if is_skipped line || is_indented line then begun else not (is_head line)
+opens begun line = if is_skipped line || is_indented line then begun else not (begins_section line)
 
 -- the lines that aren't skipped, each with those that continue it, numbered from the given number
 unfoldable pub joined_lines : Bool → ℕ → List (List ℕ) → List JoinedLine

@@ -2,12 +2,13 @@
 use Rattle.std.specs.Prelude.{ℕ, ◌≡◌, List, [], ◌∷◌, ◌++◌, Option, None, Some, Result, Ok, Err}
 use Rattle.std.specs.List.{slice_split}
 use Rattle.dsv_base.specs.Gives.{◌>>=◌, Gives}
+use Rattle.authz_file.specs.declared.entries.Reading.{Reading}
 use Rattle.authz_file.specs.declared.section_entry.SectionEntry.{SectionEntry}
 use Rattle.authz_file.specs.declared.joined_line.JoinedLine.{JoinedLine}
 use Rattle.authz_file.specs.declared.rules_fault.RulesFault.{RulesFault}
 use Rattle.authz_file.specs.declared.section.Section.{Section}
 use Rattle.authz_file.specs.Faults.{is_free_rules_fault}
-use Rattle.authz_file.specs.Words.{is_comma}
+use Rattle.dsv_base.specs.TextFiles.{is_comma}
 use Rattle.authz_file.specs.Entries.{entries_of}
 
 -- what stands between the commas of what is left, if anything is
@@ -19,9 +20,13 @@ items_left (Some text) = slice_split is_comma text
 abbrev pub with_front : List SectionEntry → Result (List SectionEntry) RulesFault → Result (List SectionEntry) RulesFault
 with_front front read = read >>= (λ entries. Ok (front ++ entries))
 
--- one more line is read: the section and the entries are the first, and then the second
-abbrev pub ReadsLine : Option Section × List SectionEntry → JoinedLine → Option Section × List SectionEntry → Type 0
-ReadsLine before line after = (rest : List JoinedLine) → with_front before.1 (entries_of before.0 (line ∷ rest)) ≡ with_front after.1 (entries_of after.0 rest)
+-- what a reading and the lines that are left come to
+abbrev pub left_of : Reading → List JoinedLine → Result (List SectionEntry) RulesFault
+left_of reading lines = with_front reading.entries.items (entries_of reading.section lines)
+
+-- one more line is read, which changes nothing of what all comes to
+abbrev pub ReadsLine : Reading → JoinedLine → Reading → Type 0
+ReadsLine before line after = (rest : List JoinedLine) → left_of before (line ∷ rest) ≡ left_of after rest
 
 -- this line gives the fault, whatever stands after it
 abbrev pub RefusesLine : Option Section → JoinedLine → RulesFault → Type 0

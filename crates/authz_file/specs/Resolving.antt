@@ -75,13 +75,13 @@ rules_from entries place [] = []
 rules_from entries place (e ∷ es) = cons_option (entry_rule entries place e) (rules_from entries (place + 1) es)
 
 -- the value, unless there is a fault
-abbrev pub unless : {X : Type 0} → Option RulesFault → X → Result X RulesFault
-unless None x = Ok x
-unless (Some fault) x = Err fault
+abbrev pub unless_faulty : {X : Type 0} → Option RulesFault → X → Result X RulesFault
+unless_faulty None x = Ok x
+unless_faulty (Some fault) x = Err fault
 
 -- the rules of the entries, or the first line with a word that names nothing, or with a group that holds itself
 unfoldable pub resolved : List SectionEntry → Result Rules RulesFault
-resolved entries = unless (faults_from entries 0 entries) (record { list = rules_from entries 0 entries })
+resolved entries = unless_faulty (faults_from entries 0 entries) (record { list = rules_from entries 0 entries })
 
 -- what a rules file says: the first line that breaks the grammar comes before all that is unknown
 unfoldable pub rules_of : List ℕ → Result Rules RulesFault

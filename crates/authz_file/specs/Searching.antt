@@ -16,6 +16,10 @@ FindsLabels map text entries = (label : List ℕ) → get_by (λ k. slice_cmp na
 abbrev pub Has : List ℕ → ℕ → Type 0
 Has xs q = list_any (nat_eq q) xs ≡ true
 
+-- two lists have the same numbers
+abbrev pub HaveSame : List ℕ → List ℕ → Type 0
+HaveSame xs ys = (q : ℕ) → list_any (nat_eq q) xs ≡ list_any (nat_eq q) ys
+
 -- every place that is named is that of an entry
 abbrev pub IsGraph : List (List ℕ) → Type 0
 IsGraph graph = (place named : ℕ) → Has (named_at graph place) named → named < length graph
@@ -41,6 +45,10 @@ with_names names (n ∷ ns) = with_names (with_name names n) ns
 -- the names of a set, its keys being read as texts
 abbrev pub texts : {K : Type 0} → (K → List ℕ) → BTreeSet K → List (List ℕ)
 texts text set = map text set.keys
+
+-- a set has the names of another, and these, its keys being read as texts
+abbrev pub AddsNames : {K : Type 0} → (K → List ℕ) → BTreeSet K → BTreeSet K → List (List ℕ) → Type 0
+AddsNames text old new names = texts text new ≡ with_names (texts text old) names
 
 -- no entry names a place of a higher rank
 abbrev pub NeverRises : List (List ℕ) → List ℕ → Type 0

@@ -36,18 +36,18 @@ split_repos [] = None
 split_repos (b ∷ bs) = if begins_cut (b ∷ bs) then Some ([], bs) else onto_front b (split_repos bs)
 
 -- the place of a path, where it is one, in this repository or in each
-abbrev pub at_path : Option (List ℕ) → Option (List ℕ) → Option SectionPlace
-at_path repos None = None
-at_path repos (Some path) = Some (record { repos = repos; path = path })
+abbrev pub path_place : Option (List ℕ) → Option (List ℕ) → Option SectionPlace
+path_place repos None = None
+path_place repos (Some path) = Some (record { repos = repos; path = path })
 
 -- the place of a path in the repository whose name stands before it
 abbrev pub at_repos : Option (List ℕ × List ℕ) → Option SectionPlace
 at_repos None = None
-at_repos (Some p) = if is_repository_name p.0 then at_path (Some p.0) (section_path p.1) else None
+at_repos (Some p) = if is_repository_name p.0 then path_place (Some p.0) (section_path p.1) else None
 
 -- a name that begins with `/` is a path; else a repository's name stands before it
 unfoldable pub place_of : List ℕ → Option SectionPlace
-place_of name = if begins_with 47 name then at_path None (section_path name) else at_repos (split_repos name)
+place_of name = if begins_with 47 name then path_place None (section_path name) else at_repos (split_repos name)
 
 -- the section of a place
 abbrev pub at_place : Option SectionPlace → Option Section
@@ -61,13 +61,13 @@ section_named name =
     if bytes_eq name (codes "aliases") then Some Aliases else at_place (place_of name)
 
 -- the section of the name, where there is one
-abbrev pub named : Option (List ℕ) → Option Section
-named None = None
-named (Some name) = section_named name
+abbrev pub section_in : Option (List ℕ) → Option Section
+section_in None = None
+section_in (Some name) = section_named name
 
 -- the section that a line begins, if it is one
 abbrev pub section_of : List ℕ → Option Section
-section_of text = named (bracketed text)
+section_of text = section_in (bracketed text)
 
 -- the name of a section without the slash that may be dropped
 abbrev pub place_name : Option (List ℕ) → List ℕ → List ℕ

@@ -2,7 +2,7 @@
 use Rattle.std.specs.Prelude.{ℕ, ◌+◌, Bool, false, ◌||◌, not, List, [], ◌∷◌, map, take, drop, position, Option, None, Some, ◌==◌, codes, if◌then◌else◌}
 use Rattle.std.specs.List.{list_all, slice_split}
 use Rattle.std.specs.Str.{bytes_eq}
-use Rattle.dsv_base.specs.TextFiles.{begins_with, trimmed}
+use Rattle.dsv_base.specs.TextFiles.{begins_with, is_comma, trimmed}
 use Rattle.authz_file.specs.declared.right.Right.{Right}
 use Rattle.authz_file.specs.declared.right.Right.TheVariants.{No, Read, Write}
 use Rattle.authz_file.specs.declared.who.Who.{Who}
@@ -38,10 +38,6 @@ is_user (b ∷ bs) = not (is_sigil b)
 -- a word is the name of a user, or `@` and the name of a group, or `&` and that of an alias
 abbrev pub is_word : List ℕ → Bool
 is_word text = is_user text || begins_with 64 text || begins_with 38 text
-
--- the byte is a comma
-abbrev pub is_comma : ℕ → Bool
-is_comma b = b == 44
 
 -- the items of a list, which may be empty
 abbrev pub list_items : List ℕ → List (List ℕ)

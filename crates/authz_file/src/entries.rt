@@ -3,7 +3,7 @@ ghost use Rattle.dsv_base.specs.Gives.{Gives};
 ghost use Rattle.authz_file.specs.Faults.{is_free_rules_fault};
 ghost use Rattle.authz_file.specs.Words.{own_words};
 ghost use Rattle.authz_file.specs.Sections.{place_name};
-ghost use Rattle.authz_file.specs.Entries.{group_entry, alias_entry, grant_entry, entry_in, entry_at, section_at, entries_of};
+ghost use Rattle.authz_file.specs.Entries.{group_entry, alias_entry, grant_entry, entry_under, entry_at, section_at, entries_of};
 ghost use Rattle.authz_file.specs.Reading.{ReadsLine, RefusesLine};
 
 use crate::grant::Grant;
@@ -153,14 +153,14 @@ fn grant_entry(
     })
 }
 
-fn entry_in(
+fn entry_under(
     alloc: Global,
     section: &Option<Section>,
     line: u32,
     key: &[u8],
     value: &[u8],
 ) -> Result<SectionEntry, RulesFault>
-    ensures { Gives is_free_rules_fault result (entry_in section.now line key.now value.now) }
+    ensures { Gives is_free_rules_fault result (entry_under section.now line key.now value.now) }
 {
     match section {
         None => Err(RulesFault::BadLine { line }),
@@ -182,7 +182,7 @@ fn entry_at(
 {
     match key_value(text) {
         None => Err(RulesFault::BadLine { line }),
-        Some((key, value)) => entry_in(alloc, section, line, key, value),
+        Some((key, value)) => entry_under(alloc, section, line, key, value),
     }
 }
 
@@ -206,7 +206,7 @@ struct Reading {
 impl Reading {
     #[tactic(auto, unfolding(crate::specs::Entries::entries_of))]
     fn read_line(&mut self, alloc: Global, line: &JoinedLine) -> Result<(), RulesFault>
-        ensures ok { OnOk result (ReadsLine (self.old.section, self.old.entries.items) line.now (self.new.section, self.new.entries.items)) }
+        ensures ok { OnOk result (ReadsLine self.old line.now self.new) }
         ensures err { IfErr result (RefusesLine self.old.section line.now) }
     {
         match line {

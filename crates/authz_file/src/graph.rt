@@ -1,5 +1,5 @@
 ghost use Rattle.std.specs.Prelude.{◌≡◌, ◌++◌, IfOk, OnOk, filter_map, option_to_list};
-ghost use Rattle.authz_file.specs.Groups.{named_at, target, targets};
+ghost use Rattle.authz_file.specs.Groups.{definition_of, named_at, targets};
 
 use crate::book::Book;
 use crate::words::is_user;
@@ -8,8 +8,8 @@ use std::alloc::Global;
 
 /// The place of the definition that a word names; none where it is the name of a user, or names
 /// nothing.
-fn target(book: &Book, word: &[u8]) -> Option<usize>
-    ensures { result ≡ target book.now word.now }
+fn definition_of(book: &Book, word: &[u8]) -> Option<usize>
+    ensures { result ≡ definition_of book.now word.now }
 {
     if is_user(word) {
         return None;
@@ -31,11 +31,11 @@ fn push_target(places: &mut Vec<usize>, target: Option<usize>) -> Result<(), NoM
 
 /// The places of the definitions that the words name.
 fn word_targets(alloc: Global, book: &Book, words: &[Bytes]) -> Result<List<usize>, NoMemory>
-    ensures { IfOk result (λ places. places ≡ filter_map (target book.now) words.now) }
+    ensures { IfOk result (λ places. places ≡ filter_map (definition_of book.now) words.now) }
 {
     let mut places = Vec::new(alloc);
     'words: for word in words {
-        push_target(&mut places, target(book, word.get()))?;
+        push_target(&mut places, definition_of(book, word.get()))?;
     }
     Ok(List::of(places))
 }

@@ -1,7 +1,7 @@
 ghost use Rattle.std.specs.Prelude.{◌≡◌, ◌<◌, ◌≤◌, ◌∷◌, [], false, length, IfOk, IfSome, IfNone, All, take, slice_index, option_copied, map};
 ghost use Rattle.std.specs.List.{slice_split};
-ghost use Rattle.dsv_base.specs.TextFiles.{left_size, trimmed};
-ghost use Rattle.authz_file.specs.Words.{is_comma, words_if, words_of};
+ghost use Rattle.dsv_base.specs.TextFiles.{is_comma, left_size, trimmed};
+ghost use Rattle.authz_file.specs.Words.{words_if, words_of};
 ghost use Rattle.authz_file.specs.Reading.{items_left};
 
 use crate::words::is_word;

@@ -1,6 +1,6 @@
 ghost use Rattle.std.specs.Prelude.{◌≡◌, ◌≤◌, ◌++◌, false, IfOk, OnOk, length, option_copied, option_to_list};
 ghost use Rattle.dsv_base.specs.TextFiles.{file_lines, lines_left};
-ghost use Rattle.authz_file.specs.Lines.{is_indented, is_head, continued, line_gives, opens, joined_lines};
+ghost use Rattle.authz_file.specs.Lines.{is_indented, begins_section, continued, line_before, opens, joined_lines};
 
 use crate::joined_line::JoinedLine;
 use dsv_base::{Bytes, NoMemory, is_skipped, next_line, without_front};
@@ -17,8 +17,8 @@ fn is_indented(line: &[u8]) -> bool
 }
 
 /// Whether it begins with `[`.
-fn is_head(line: &[u8]) -> bool
-    ensures { result ≡ is_head line.now }
+fn begins_section(line: &[u8]) -> bool
+    ensures { result ≡ begins_section line.now }
 {
     match line {
         [b'[', ..] => true,
@@ -56,7 +56,7 @@ fn line_gives(
     line: &[u8],
     after: Option<&[u8]>,
 ) -> Result<Option<JoinedLine>, NoMemory>
-    ensures { IfOk result (λ given. option_to_list given ≡ line_gives begun number line.now (continued (lines_left (option_copied after.entry)))) }
+    ensures { IfOk result (λ given. option_to_list given ≡ line_before begun number line.now (option_copied after.entry)) }
 {
     if is_skipped(line) {
         return Ok(None);
@@ -67,7 +67,7 @@ fn line_gives(
         }
         return Ok(Some(JoinedLine::Stray { number }));
     }
-    if is_head(line) {
+    if begins_section(line) {
         let text = Bytes::of(alloc, line)?;
         return Ok(Some(JoinedLine::Head { number, text }));
     }
@@ -85,7 +85,7 @@ fn opens(begun: bool, line: &[u8]) -> bool
     if is_indented(line) {
         return begun;
     }
-    !is_head(line)
+    !begins_section(line)
 }
 
 fn push_line(lines: &mut Vec<JoinedLine>, given: Option<JoinedLine>) -> Result<(), NoMemory>

@@ -1,7 +1,7 @@
 ghost use Rattle.std.specs.Prelude.{◌≡◌, ◌<◌, ◌∷◌, [], length, filter, flat_map, IfOk, OnOk};
 ghost use Rattle.authz_file.specs.Words.{is_user};
 ghost use Rattle.authz_file.specs.Groups.{targets, users_at, names_at};
-ghost use Rattle.authz_file.specs.Searching.{texts, with_names};
+ghost use Rattle.authz_file.specs.Searching.{texts, with_names, AddsNames};
 
 use crate::book::Book;
 use crate::search::reached_by;
@@ -12,7 +12,7 @@ use std::collections::BTreeSet;
 
 /// Adds the word, where it is the name of a user.
 fn add_user(alloc: Global, names: &mut BTreeSet<Vec<u8>>, word: &[u8]) -> Result<(), NoMemory>
-    ensures { OnOk result (texts (λ k. k.items) names.new ≡ with_names (texts (λ k. k.items) names.old) (filter is_user (word.now ∷ []))) }
+    ensures { OnOk result (AddsNames (λ k. k.items) names.old names.new (filter is_user (word.now ∷ []))) }
 {
     if !is_user(word) {
         return Ok(());
@@ -24,7 +24,7 @@ fn add_user(alloc: Global, names: &mut BTreeSet<Vec<u8>>, word: &[u8]) -> Result
 
 /// Adds those words that are names of users.
 fn add_users(alloc: Global, names: &mut BTreeSet<Vec<u8>>, words: &[Bytes]) -> Result<(), NoMemory>
-    ensures { OnOk result (texts (λ k. k.items) names.new ≡ with_names (texts (λ k. k.items) names.old) (filter is_user words.now)) }
+    ensures { OnOk result (AddsNames (λ k. k.items) names.old names.new (filter is_user words.now)) }
 {
     'words: for word in words {
         add_user(alloc, names, word.get())?;
@@ -44,7 +44,7 @@ fn words_at(book: &Book, place: usize) -> &[Bytes]
 
 /// The users that the entries at these places name by themselves.
 fn users_of(alloc: Global, book: &Book, places: &[usize]) -> Result<BTreeSet<Vec<u8>>, NoMemory>
-    ensures { IfOk result (λ names. texts (λ k. k.items) names ≡ with_names [] (flat_map (users_at book.now) places.now)) }
+    ensures { IfOk result (λ s. texts (λ k. k.items) s ≡ with_names [] (flat_map (users_at book.now) places.now)) }
 {
     let mut names = BTreeSet::new(alloc);
     'places: for place in places {

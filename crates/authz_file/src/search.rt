@@ -1,7 +1,7 @@
 ghost use Rattle.std.specs.Prelude.{◌≡◌, ◌<◌, ℕ, [], length, nat_eq, IfOk, OnOk};
 ghost use Rattle.std.specs.List.{list_any};
 ghost use Rattle.authz_file.specs.Groups.{reached_by, is_circular, named_at};
-ghost use Rattle.authz_file.specs.Searching.{Has, IsGraph, IsSeen, with_place, with_places};
+ghost use Rattle.authz_file.specs.Searching.{Has, HaveSame, IsGraph, IsSeen, with_place, with_places};
 
 use crate::graph::named_at;
 use dsv_base::{List, NoMemory};
@@ -46,7 +46,7 @@ pub(crate) fn reached_by(
 ) -> Result<Vec<usize>, NoMemory>
     requires graph { IsGraph graph.now }
     requires start { (place : ℕ) → Has start.now place → place < length graph.now }
-    ensures { IfOk result (λ places. (place : ℕ) → list_any (nat_eq place) places.items ≡ list_any (nat_eq place) (reached_by graph.now start.now)) }
+    ensures { IfOk result (λ places. HaveSame places.items (reached_by graph.now start.now)) }
 {
     let mut places = Vec::new(alloc);
     let mut seen = BTreeSet::new(alloc);

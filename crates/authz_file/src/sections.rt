@@ -1,6 +1,6 @@
 ghost use Rattle.std.specs.Prelude.{◌≡◌, ◌≤◌, ◌<◌, ◌&&◌, ◌==◌, ◌∷◌, ◌++◌, [], None, Some, IfOk, length, option_copied, option_map, if◌then◌else◌};
 ghost use Rattle.dsv_base.specs.Paths.{is_path};
-ghost use Rattle.authz_file.specs.Sections.{bracketed, begins_cut, section_path, split_repos, at_path, at_repos, place_of, section_named, place_name, section_of};
+ghost use Rattle.authz_file.specs.Sections.{bracketed, begins_cut, section_path, split_repos, path_place, at_repos, place_of, section_named, place_name, section_of};
 
 use crate::section::Section;
 use crate::section_place::SectionPlace;
@@ -71,12 +71,12 @@ fn split_repos(name: &[u8]) -> Option<(&[u8], &[u8])>
 }
 
 /// The place of a path that stands after a repository's name, or without one.
-fn at_path(
+fn path_place(
     alloc: Global,
     repos: Option<Bytes>,
     text: &[u8],
 ) -> Result<Option<SectionPlace>, NoMemory>
-    ensures { IfOk result (λ place. place ≡ at_path repos (section_path text.now)) }
+    ensures { IfOk result (λ place. place ≡ path_place repos (section_path text.now)) }
 {
     match section_path(alloc, text)? {
         None => Ok(None),
@@ -90,7 +90,7 @@ fn place_of(alloc: Global, name: &[u8]) -> Result<Option<SectionPlace>, NoMemory
     ensures { IfOk result (λ place. place ≡ place_of name.now) }
 {
     if let [b'/', ..] = name {
-        return at_path(alloc, None, name);
+        return path_place(alloc, None, name);
     }
     match split_repos(name) {
         None => Ok(None),
@@ -99,7 +99,7 @@ fn place_of(alloc: Global, name: &[u8]) -> Result<Option<SectionPlace>, NoMemory
                 return Ok(None);
             }
             let repos = Bytes::of(alloc, repos)?;
-            at_path(alloc, Some(repos), path)
+            path_place(alloc, Some(repos), path)
         }
     }
 }

@@ -1,6 +1,6 @@
 ghost use Rattle.std.specs.Prelude.{◌≡◌, ◌∷◌, ◌<◌, [], None, Some, length, option_map, position, IfSome};
-ghost use Rattle.dsv_base.specs.TextFiles.{begins_with};
-ghost use Rattle.authz_file.specs.Words.{is_separator, is_user, is_word, is_comma, key_value, who_of, right_of, is_negated, principal_of};
+ghost use Rattle.dsv_base.specs.TextFiles.{begins_with, is_comma};
+ghost use Rattle.authz_file.specs.Words.{is_separator, is_user, is_word, key_value, who_of, right_of, is_negated, principal_of};
 
 use crate::right::Right;
 use crate::who::Who;

@@ -4,7 +4,7 @@ use Rattle.std.specs.List.{list_any, slice_split}
 use Rattle.std.specs.Str.{bytes_eq}
 use Rattle.dsv_base.specs.TextFiles.{trimmed}
 use Rattle.dsv_base.specs.declared.form.Form.TheVariants.{Later}
-use Rattle.http_front.specs.Connections.{is_comma}
+use Rattle.dsv_base.specs.TextFiles.{is_comma}
 use Rattle.dav_replies.specs.declared.allow_kind.AllowKind.{AllowKind}
 use Rattle.dav_replies.specs.declared.refusal.Refusal.{Refusal}
 use Rattle.dav_replies.specs.declared.refusal.Refusal.TheVariants.{WrongMethod, NotInProfile}

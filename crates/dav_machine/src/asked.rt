@@ -1,7 +1,7 @@
 ghost use Rattle.std.specs.Prelude.{◌≡◌};
 ghost use Rattle.std.specs.List.{list_any, slice_split};
 ghost use Rattle.dsv_base.specs.Gives.{Gives};
-ghost use Rattle.http_front.specs.Connections.{is_comma};
+ghost use Rattle.dsv_base.specs.TextFiles.{is_comma};
 ghost use Rattle.dav_replies.specs.Faults.{is_no_memory};
 ghost use Rattle.dav_machine.specs.Methods.{is_word, is_allowed, asked_by, by_method};
 

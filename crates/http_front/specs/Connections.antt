@@ -3,12 +3,8 @@ use Rattle.std.specs.Prelude.{ℕ, Bool, ◌&&◌, ◌||◌, List, ◌==◌, cod
 use Rattle.std.specs.List.{list_any, slice_split}
 use Rattle.std.specs.Str.{str_eq_ignore_ascii_case}
 use Rattle.dsv_base.specs.declared.field.Field.{Field}
-use Rattle.dsv_base.specs.TextFiles.{trimmed}
+use Rattle.dsv_base.specs.TextFiles.{is_comma, trimmed}
 use Rattle.http_front.specs.Fields.{is_named}
-
--- the byte is a comma
-abbrev pub is_comma : ℕ → Bool
-is_comma b = b == 44
 
 -- the word `close`, in any case of letters, with blanks around it
 abbrev pub is_close : List ℕ → Bool

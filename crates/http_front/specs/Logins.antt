@@ -8,16 +8,11 @@ use Rattle.base64.specs.GeneralPurpose.{decoded_of}
 use Rattle.dsv_base.specs.declared.field.Field.{Field}
 use Rattle.dsv_base.specs.Lines.{cut_at}
 use Rattle.dsv_base.specs.Names.{is_user_name}
+use Rattle.dsv_base.specs.Options.{◌>>=◌}
 use Rattle.http_front.specs.declared.login.Login.{Login}
 use Rattle.http_front.specs.declared.login.Login.TheVariants.{Nobody, User, Wrong}
 use Rattle.http_front.specs.declared.user.User as user
 use Rattle.http_front.specs.Fields.{values_named}
-
--- the next step, where there is a value
-infixl 10 ◌>>=◌
-abbrev ◌>>=◌ : {A B : Type 0} → Option A → (A → Option B) → Option B
-None >>= f = None
-(Some x) >>= f = f x
 
 -- the values of the fields Authorization
 abbrev pub authorizations : List Field → List (List ℕ)

@@ -1,6 +1,7 @@
 ghost use Rattle.std.specs.Prelude.{◌≡◌};
 ghost use Rattle.std.specs.List.{list_any, slice_split};
-ghost use Rattle.http_front.specs.Connections.{is_close, is_comma, is_last, says_close};
+ghost use Rattle.dsv_base.specs.TextFiles.{is_comma};
+ghost use Rattle.http_front.specs.Connections.{is_close, is_last, says_close};
 
 use crate::fields::is_named;
 use dsv_base::{Field, trimmed};

@@ -27,6 +27,7 @@ abbrev pub named_from : List Change → List (List ℕ × Unit {0}) → List (Li
 named_from [] names = names
 named_from (change ∷ changes) names = named_from changes (put (slice_cmp nat_cmp) (path_of change) tt names)
 
+-- the paths that changes name, in byte order, each once
 abbrev pub named_paths : List Change → List (List ℕ × Unit {0})
 named_paths changes = named_from changes []
 
@@ -57,6 +58,7 @@ source_from path (change ∷ changes) before = source_from path changes (source_
 abbrev pub added_path : List ℕ → List Change → TreeNode → Changed
 added_path path changes now = record { path = path; mark = Added; kind = now.node.kind; source = source_from path changes None }
 
+-- how a path changed where a node stands there before and after: replaced where a change put another there, else modified
 abbrev pub kept_path : List ℕ → List Change → TreeNode → Bool → Changed
 kept_path path changes now true = record { path = path; mark = Replaced; kind = now.node.kind; source = source_from path changes None }
 kept_path path changes now false = record { path = path; mark = Modified; kind = now.node.kind; source = None }
@@ -68,6 +70,7 @@ changed_by path changes None (Some now) = Some (added_path path changes now)
 changed_by path changes (Some was) None = Some (record { path = path; mark = Deleted; kind = was.node.kind; source = None })
 changed_by path changes (Some was) (Some now) = Some (kept_path path changes now (list_any (deletes path) changes))
 
+-- how the path changed between the two trees, if it did
 abbrev pub changed_at : List Change → Tree → Tree → List ℕ → Option Changed
 changed_at changes before after path = changed_by path changes (at path before) (at path after)
 

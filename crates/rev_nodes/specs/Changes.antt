@@ -45,13 +45,16 @@ copied source rev path r (place ∷ tree) = if is_under place.0 source then (mov
 abbrev pub are_paths : Tree → Bool
 are_paths tree = list_all (λ place. is_path place.0) tree
 
+-- why a change of what stands at the path doesn't fit: nothing is there
 abbrev pub unfit_at : List ℕ → Tree → Option Unfit
 unfit_at path tree = if is_some (at path tree) then None else Some NoNode
 
+-- the reason so far, or that a path that arises is none
 abbrev pub or_too_long : Option Unfit → Bool → Option Unfit
 or_too_long (Some why) fits = Some why
 or_too_long None fits = if fits then None else Some TooLong
 
+-- why a copy that adds these places doesn't fit
 abbrev pub unfit_copy : List ℕ → Tree → Tree → Option Unfit
 unfit_copy path copies tree = or_too_long (unfit_new path tree) (are_paths copies)
 
@@ -68,6 +71,7 @@ unfit (Copy source rev path) trees tree = if is_some (at source (tree_at trees r
 abbrev pub mark : ℕ → List ℕ → List ℕ × TreeNode → List ℕ × TreeNode
 mark r path place = (place.0, if is_under path place.0 then record place.1 { node = record place.1.node { created = r } } else place.1)
 
+-- the places of a tree after a change at the path
 abbrev pub marked : ℕ → List ℕ → Tree → Tree
 marked r path tree = map (mark r path) tree
 
@@ -76,6 +80,7 @@ abbrev pub with_text : ℕ → List ℕ → Option TreeNode → TreeNode
 with_text r text None = new_file text r
 with_text r text (Some found) = record found { node = record found.node { text = text } }
 
+-- the tree with the node at the path
 abbrev pub placed : List ℕ → TreeNode → Tree → Tree
 placed path node tree = put (slice_cmp nat_cmp) path node tree
 
@@ -84,6 +89,7 @@ abbrev pub all_placed : Tree → Tree → Tree
 all_placed [] tree = tree
 all_placed (place ∷ places) tree = all_placed places (placed place.0 place.1 tree)
 
+-- a property put before another, in its place or behind it, by how their names compare
 abbrev pub prop_by : Ordering → Prop → Prop → List Prop → List Prop → List Prop
 prop_by Less prop other others with_others = prop ∷ other ∷ others
 prop_by Equal prop other others with_others = prop ∷ others
@@ -94,9 +100,11 @@ abbrev pub with_prop : Prop → List Prop → List Prop
 with_prop prop [] = prop ∷ []
 with_prop prop (other ∷ others) = prop_by (slice_cmp nat_cmp prop.name other.name) prop other others (with_prop prop others)
 
+-- the properties without the one of this name
 abbrev pub without_prop : List ℕ → List Prop → List Prop
 without_prop name props = filter (λ prop. not (bytes_eq prop.name name)) props
 
+-- the node with its properties edited
 abbrev pub with_props : (List Prop → List Prop) → TreeNode → TreeNode
 with_props edit found = record found { node = record found.node { props = edit found.node.props } }
 
@@ -104,6 +112,7 @@ with_props edit found = record found { node = record found.node { props = edit f
 abbrev pub edited : (List Prop → List Prop) → List ℕ → Tree → Tree
 edited edit path tree = option_map_or (λ found. placed path (with_props edit found) tree) (at path tree) tree
 
+-- the tree without all at and under the path
 abbrev pub without : List ℕ → Tree → Tree
 without path tree = filter (λ place. not (is_under place.0 path)) tree
 
@@ -116,6 +125,7 @@ apply (Mkdir path) trees tree r = marked r path (placed path (new_dir r) tree)
 apply (Delete path) trees tree r = marked r path (without path tree)
 apply (Copy source rev path) trees tree r = marked r path (all_placed (copied source rev path r (tree_at trees rev)) tree)
 
+-- the next step, unless the change didn't fit
 abbrev pub unless : {X : Type 0} → Option Unfit → ℕ → Result X (ℕ × Unfit) → Result X (ℕ × Unfit)
 unless None index then_ = then_
 unless (Some why) index then_ = Err (index, why)

@@ -16,6 +16,7 @@ use Rattle.rev_nodes.specs.Forests.{Numbered, Forest, places_at, place_at, id_at
 abbrev pub is_child : List ℕ → List ℕ → Bool
 is_child directory path = option_map_or (bytes_eq directory) (parent_text path) false
 
+-- a place as an entry of the directory, if it is its child
 abbrev pub entry_in : List ℕ → List ℕ × Numbered → Option Entry
 entry_in directory place = if is_child directory place.0 then Some (record { name = name_of place.0; id = place.1.id }) else None
 

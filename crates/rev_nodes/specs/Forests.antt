@@ -33,9 +33,11 @@ pub record Forest : Type 0 where
 abbrev pub tree_of : List (List ℕ × Numbered) → Tree
 tree_of places = map (λ p. (p.0, p.1.here)) places
 
+-- the revision without the numbers of its nodes
 abbrev pub without_numbers : ForestRevision → Revision
 without_numbers revision = record { commit = revision.commit; changed = revision.changed; tree = tree_of revision.places }
 
+-- the repository without the numbers of its nodes
 abbrev pub repository_of : Forest → Repository
 repository_of forest = record { name = forest.name; uuid = forest.uuid; revisions = map without_numbers forest.revisions }
 
@@ -43,9 +45,11 @@ repository_of forest = record { name = forest.name; uuid = forest.uuid; revision
 abbrev pub no_commit : Commit
 no_commit = record { author = []; moment = 0; props = []; changes = [] }
 
+-- what stands past the youngest: nothing
 abbrev pub no_revision : ForestRevision
 no_revision = record { commit = no_commit; changed = []; places = [] }
 
+-- the revision of this number
 abbrev pub revision_at : Forest → ℕ → ForestRevision
 revision_at forest rev = slice_index_or forest.revisions rev no_revision
 
@@ -53,6 +57,7 @@ revision_at forest rev = slice_index_or forest.revisions rev no_revision
 abbrev pub places_at : Forest → ℕ → List (List ℕ × Numbered)
 places_at forest rev = (revision_at forest rev).places
 
+-- what stands at a path of a revision, with its number
 abbrev pub place_at : Forest → ℕ → List ℕ → Option Numbered
 place_at forest rev path = find (slice_cmp nat_cmp) path (places_at forest rev)
 
@@ -64,6 +69,7 @@ id_at forest rev path = option_map (λ p. p.id) (place_at forest rev path)
 abbrev pub line_at : Forest → ℕ → List ℕ → Option Line
 line_at forest rev path = option_map (λ p. p.here.line) (place_at forest rev path)
 
+-- the node at a path of a revision
 abbrev pub node_at : Forest → ℕ → List ℕ → Option Node
 node_at forest rev path = option_map (λ p. p.here.node) (place_at forest rev path)
 

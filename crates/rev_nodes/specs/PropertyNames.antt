@@ -33,6 +33,7 @@ abbrev pub comes_before : Prop → List Prop → Bool
 comes_before prop [] = true
 comes_before prop (next ∷ props) = is_lt (slice_cmp nat_cmp prop.name next.name)
 
+-- the properties stand in byte order of the name, each name once
 abbrev pub names_rise : List Prop → Bool
 names_rise [] = true
 names_rise (prop ∷ props) = comes_before prop props && names_rise props

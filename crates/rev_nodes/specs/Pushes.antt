@@ -7,6 +7,7 @@ use Rattle.rev_nodes.specs.Trees.{Tree, Revision, first_tree}
 use Rattle.rev_nodes.specs.Changes.{apply_from}
 use Rattle.rev_nodes.specs.ChangedPaths.{changed_paths}
 
+-- the trees of revisions
 abbrev pub trees_of : List Revision → List Tree
 trees_of revisions = map (λ revision. revision.tree) revisions
 

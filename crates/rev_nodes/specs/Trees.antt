@@ -16,6 +16,7 @@ pub record TreeNode : Type 0 where
   pub node : Node
   pub line : Line
 
+-- a list of paths with nodes, in byte order of the path's text, each path once
 abbrev pub Tree : Type 0
 Tree = List (List ℕ × TreeNode)
 
@@ -23,14 +24,17 @@ Tree = List (List ℕ × TreeNode)
 abbrev pub at : List ℕ → Tree → Option TreeNode
 at path tree = find (slice_cmp nat_cmp) path tree
 
+-- the kind is a directory
 abbrev pub is_dir_kind : Kind → Bool
 is_dir_kind File = false
 is_dir_kind Dir = true
 
+-- a directory stands there
 abbrev pub is_dir : Option TreeNode → Bool
 is_dir None = false
 is_dir (Some found) = is_dir_kind found.node.kind
 
+-- a file stands there
 abbrev pub is_file : Option TreeNode → Bool
 is_file None = false
 is_file (Some found) = not (is_dir_kind found.node.kind)
@@ -39,9 +43,11 @@ is_file (Some found) = not (is_dir_kind found.node.kind)
 abbrev pub new_line : ℕ → Line
 new_line r = record { since = r; source = None }
 
+-- an empty directory that begins in this revision
 abbrev pub new_dir : ℕ → TreeNode
 new_dir r = record { node = record { kind = Dir; props = []; text = []; created = r }; line = new_line r }
 
+-- a file with this text and without properties that begins in this revision
 abbrev pub new_file : List ℕ → ℕ → TreeNode
 new_file text r = record { node = record { kind = File; props = []; text = text; created = r }; line = new_line r }
 

@@ -14,12 +14,15 @@ use Rattle.rev_nodes.specs.Changes.{unfit, apply, apply_from, placed}
 use Rattle.rev_nodes.specs.Fitting.{in_order, Fits}
 use Rattle.rev_nodes.specs.Formed.{IsFormed}
 
+-- the node of a place with its line
 abbrev pub node_of : Place → TreeNode
 node_of place = record { node = place.node; line = place.line }
 
+-- a place as the tree has it: its path and its node
 abbrev pub entry : Place → List ℕ × TreeNode
 entry place = (place.path, node_of place)
 
+-- the tree that a list of places is
 abbrev pub tree_in : List Place → Tree
 tree_in places = map entry places
 

@@ -4,6 +4,7 @@ use Rattle.rev_trees.specs.declared.place.Place.{Place}
 use Rattle.rev_nodes.specs.Forests.{Numbered}
 use Rattle.rev_trees.specs.Flat.{node_of}
 
+-- a place with its number, by the revision and the place's index in it
 abbrev pub numbered : ℕ → ℕ → Place → List ℕ × Numbered
 numbered rev index place = (place.path, record { id = rev * 4294967296 + index; here = node_of place })
 

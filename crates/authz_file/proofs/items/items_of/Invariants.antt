@@ -2,7 +2,8 @@ use Rattle.std.proofs.Common.{◌≡◌, ◌++◌, true}
 use Rattle.std.specs.Prelude.{option_copied, map}
 use Rattle.std.specs.List.{slice_split, list_all}
 use Rattle.dsv_base.specs.TextFiles.{left_size, trimmed}
-use Rattle.authz_file.specs.Words.{is_comma, is_word}
+use Rattle.dsv_base.specs.TextFiles.{is_comma}
+use Rattle.authz_file.specs.Words.{is_word}
 use Rattle.authz_file.specs.Reading.{items_left}
 use Rattle.authz_file.proofs.items.items_of.Given as goal
 

@@ -4,7 +4,7 @@ use Rattle.std.proofs.lemmas.List.{take-append-drop}
 use Rattle.std.proofs.lemmas.List.Splits.{slice_split_none, slice_split_at}
 use Rattle.std.proofs.lemmas.Grind.{common_steps}
 use Rattle.std.proofs.lemmas.Bool.Decides.{nat_tests}
-use Rattle.authz_file.specs.Words.{is_comma}
+use Rattle.dsv_base.specs.TextFiles.{is_comma}
 use Rattle.authz_file.proofs.items.next_item.Goals as goal
 
 pub returns-in-None-clause-item : goal.returns-in-None-clause-item

@@ -3,7 +3,7 @@ use Rattle.std.specs.List.{list_any, slice_split}
 use borrow.Author.Tests.{tests}
 use Rattle.std.proofs.lemmas.Iterator.Search.{any_from_yields_List}
 use Rattle.std.proofs.lemmas.Iterator.Splits.{YieldsList-from_slice_split}
-use Rattle.http_front.specs.Connections.{is_comma}
+use Rattle.dsv_base.specs.TextFiles.{is_comma}
 use Rattle.dav_machine.specs.Methods.{is_word}
 use Rattle.dav_machine.proofs.asked.is_allowed.Goals as goal
 

@@ -2,7 +2,8 @@ use Rattle.std.proofs.Common.{rules}
 use borrow.Author.Tests.{tests}
 use Rattle.std.proofs.lemmas.Iterator.Search.{any_from_yields_List}
 use Rattle.std.proofs.lemmas.Iterator.Splits.{YieldsList-from_slice_split}
-use Rattle.http_front.specs.Connections.{is_close, is_comma}
+use Rattle.dsv_base.specs.TextFiles.{is_comma}
+use Rattle.http_front.specs.Connections.{is_close}
 use Rattle.http_front.proofs.connection.has_close.Goals as goal
 
 -- the chain gives the words, and tests each

@@ -1,0 +1,14 @@
+use anyhow::Result;
+use std::alloc::Global;
+
+/// Numbers with blanks between them; `none` is no number.
+pub fn numbers_in(alloc: Global, text: &str) -> Result<Vec<u64>> {
+    let mut numbers = Vec::new(alloc);
+    if text == "none" {
+        return Ok(numbers);
+    }
+    for word in text.split_whitespace() {
+        numbers.push(word.parse::<u64>()?)?;
+    }
+    Ok(numbers)
+}
