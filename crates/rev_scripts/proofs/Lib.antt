@@ -5,5 +5,6 @@ pub mod MoreBehind
 pub mod ReadRevisions
 pub mod RevisionBack
 pub mod ScriptRows
+pub mod SoundTold
 pub mod Spelled
 pub mod TextsBack

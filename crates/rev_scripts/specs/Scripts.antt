@@ -10,11 +10,12 @@ use Rattle.rev_scripts.specs.declared.item_fault.ItemFault.{ItemFault}
 use Rattle.rev_nodes.specs.declared.unfit.Unfit.{Unfit}
 use Rattle.rev_scripts.specs.declared.script_fault.ScriptFault.{ScriptFault}
 use Rattle.rev_scripts.specs.declared.script_fault.ScriptFault.TheVariants.{BadScript, NoMemory}
-use Rattle.rev_scripts.specs.Steps.{ok_where, line_from, word_from, after_front, number_from, longest, most_revision, at_line, line_after}
+use Rattle.rev_scripts.specs.Steps.{ok_where, line_from, word_from, after_front, number_from, most_revision, at_line, line_after}
 use Rattle.rev_scripts.specs.Uuids.{is_uuid}
 use Rattle.rev_scripts.specs.Items.{one_part, item_from, Told, nothing_told, may_follow, with_prop, with_change}
 use Rattle.rev_nodes.specs.Trees.{Repository, Revision}
 use Rattle.rev_nodes.specs.Pushes.{first_revision, pushed}
+use Rattle.rev_nodes.specs.Commits.{is_author}
 
 -- ---- the head
 
@@ -35,26 +36,22 @@ heading_from text = do
 
 -- ---- a revision
 
--- the first line of the revision of this number: its moment and the length of its author's name
-unfoldable pub revision_line : ℕ → List ℕ → Result (ℕ × ℕ) ItemFault
-revision_line number line = do
+-- the first line of the revision of this number: its moment, and the length of its author's name, which is at most the given one
+unfoldable pub revision_line : ℕ → ℕ → List ℕ → Result (ℕ × ℕ) ItemFault
+revision_line most number line = do
   numbers ← after_front (codes "revision ") line
   first ← word_from numbers
   told ← number_from most_revision first.0
   second ← word_from first.1
   moment ← number_from 253402300799999999 second.0
-  author ← number_from longest second.1
+  author ← number_from most second.1
   ok_where (told == number) (moment, author)
-
--- an author is a user, or nobody
-abbrev pub is_author : List ℕ → Bool
-is_author name = nat_eq (length name) 0 || is_user_name name
 
 -- that line with the author after it: moment, author, and what stands after them
 unfoldable pub revision_head : ℕ → List ℕ → Result (ℕ × List ℕ × List ℕ) ItemFault
 revision_head number text = do
   line ← line_from text
-  told ← revision_line number line.0
+  told ← revision_line (length line.1) number line.0
   author ← one_part told.1 line.1
   ok_where (is_author author.0) (told.0, author.0, author.1)
 

@@ -36,10 +36,6 @@ bytes_from count text = ok_where (nat_le count (length text)) (take count text, 
 abbrev pub number_from : ℕ → List ℕ → Result ℕ ItemFault
 number_from most text = or_bad (read_decimal most text)
 
--- no part of a script is longer
-abbrev pub longest : ℕ
-longest = 268435456
-
 -- no revision has a greater number
 abbrev pub most_revision : ℕ
 most_revision = 2000000000

@@ -8,10 +8,11 @@ use Rattle.rev_nodes.specs.declared.change.Change.{Change}
 use Rattle.rev_nodes.specs.declared.change.Change.TheVariants.{Put, SetProp, DelProp, Mkdir, Delete, Copy}
 use Rattle.rev_nodes.specs.declared.commit.Commit.{Commit}
 use Rattle.rev_nodes.specs.PropertyNames.{is_property_name, is_revision_property, names_rise}
-use Rattle.rev_scripts.specs.Steps.{longest, most_revision}
+use Rattle.rev_scripts.specs.Steps.{most_revision}
 use Rattle.rev_nodes.specs.Trees.{Repository, Revision}
 use Rattle.rev_nodes.specs.Pushes.{pushed}
-use Rattle.rev_scripts.specs.Scripts.{is_author, revision_from, repository_from}
+use Rattle.rev_nodes.specs.Commits.{is_author}
+use Rattle.rev_scripts.specs.Scripts.{revision_from, repository_from}
 
 -- ---- the text
 
@@ -45,13 +46,17 @@ revision_text number commit = head_text number commit ++ flat_map prop_text comm
 
 -- ---- what is read back
 
+-- fewer than 2 ^ 64 bytes
+abbrev pub is_short : List ℕ → Bool
+is_short text = nat_lt (length text) 18446744073709551616
+
 abbrev pub is_tellable_prop : Prop → Bool
-is_tellable_prop prop = is_revision_property prop.name && nat_le (length prop.value) longest
+is_tellable_prop prop = is_revision_property prop.name && is_short prop.value
 
 -- a change in the revision of this number
 abbrev pub is_tellable_change : ℕ → Change → Bool
-is_tellable_change number (Put path text) = nat_le 1 number && is_path path && nat_le (length text) longest
-is_tellable_change number (SetProp path name value) = nat_le 1 number && is_path path && is_property_name name && nat_le (length value) longest
+is_tellable_change number (Put path text) = nat_le 1 number && is_path path && is_short text
+is_tellable_change number (SetProp path name value) = nat_le 1 number && is_path path && is_property_name name && is_short value
 is_tellable_change number (DelProp path name) = nat_le 1 number && is_path path && is_property_name name
 is_tellable_change number (Mkdir path) = nat_le 1 number && is_path path
 is_tellable_change number (Delete path) = nat_le 1 number && is_path path
