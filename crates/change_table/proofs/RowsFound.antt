@@ -92,11 +92,11 @@ module _ (rows : List Row) (path : List ℕ) (sorted : T (are_in_order rows)) wh
   }
 
 -- a change at the path of a row, and at one that had none
-pub noted_here : (rows : List Row) (index number : ℕ) (change : Change) (row : Row) → are_in_order rows ≡ true → IsRowOf rows (path_of change) index → row.path ≡ (get_or rows index no_row).path → last_in row ≡ noted number change (last_in (get_or rows index no_row)) → AreRowsOf (noted_in number change (table_in rows)) (set rows index row)
-noted_here rows index number change row sorted here path last =
-    let last_is : last_at (path_of change) (table_in rows) ≡ last_in (get_or rows index no_row) = ap last_or (here.found no_row) in
+pub noted_here : (rows : List Row) (index number : ℕ) (change : Change) (row d : Row) → are_in_order rows ≡ true → IsRowOf rows (path_of change) index → row.path ≡ (get_or rows index d).path → last_in row ≡ noted number change (last_in (get_or rows index d)) → AreRowsOf (noted_in number change (table_in rows)) (set rows index row)
+noted_here rows index number change row d sorted here path last =
+    let last_is : last_at (path_of change) (table_in rows) ≡ last_in (get_or rows index d) = ap last_or (here.found d) in
     let is : put (slice_cmp nat_cmp) (path_of change) (last_in row) (table_in rows) ≡ noted_in number change (table_in rows) = ap (λ (l : LastChanges). put (slice_cmp nat_cmp) (path_of change) l (table_in rows)) (last ∙ ap (noted number change) (sym last_is)) in
-    rows_of number change rows (set rows index row) sorted (sym (here.set row (path ∙ here.path_is no_row)) ∙ is)
+    rows_of number change rows (set rows index row) sorted (sym (here.set row (path ∙ here.path_is d)) ∙ is)
   where
     rows_of : (number : ℕ) (change : Change) (rows new : List Row) → are_in_order rows ≡ true → table_in new ≡ noted_in number change (table_in rows) → AreRowsOf (noted_in number change (table_in rows)) new
     rows_of number change rows new sorted is = record { is = is; sorted = ap (λ (t : ChangeTable). is_sorted (slice_cmp nat_cmp) t) is ∙ true_of _ (is_sorted-put (slice_cmp nat_cmp) nat_list_cmp_total (path_of change) _ (table_in rows) (subst T (sym sorted) tt)) }

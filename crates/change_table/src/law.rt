@@ -4,5 +4,4 @@ ghost use Rattle.change_table.specs.ChangeTables.{TableIsChangedPaths};
 /// the commit, for which all changes are looked through for each path.
 pub fn one_pass_tells_changed_paths()
     ensures { TableIsChangedPaths }
-{
-}
+{}

@@ -47,7 +47,9 @@ impl Row {
         match change {
             Change::Delete { .. } => self.delete = Some(number),
             Change::Copy {
-                source, source_rev, ..
+                source,
+                source_rev,
+                ..
             } => {
                 self.copy = Some(LastCopy {
                     number,

@@ -147,7 +147,7 @@ fn delete_at(rows: &[Row], path: &[u8]) -> Option<u32>
 }
 
 /// The last copy to the path.
-fn copy_at(rows: &[Row], path: &[u8]) -> Option<&LastCopy>
+fn copy_at<'a>(rows: &'a [Row], path: &[u8]) -> Option<&'a LastCopy>
     requires { IsTrue (are_in_order rows.now) }
     ensures { option_map copy_in (option_copied result) ≡ (last_at path.now (table_in rows.now)).copy }
 {

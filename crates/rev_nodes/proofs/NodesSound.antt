@@ -52,11 +52,11 @@ named_with prop (other ∷ others) p h =
 
 named_left : (name : List ℕ) (props : List Prop) → are_named props ≡ true → are_named (without_prop name props) ≡ true
 named_left name [] h = refl
-named_left name (prop ∷ props) h = by (not (bytes_eq prop.name name))
+named_left name (prop ∷ props) h = by (not (bytes_eq prop.name name)) (named_left name props (and_parts (is_property_name prop.name) (are_named props) h).1)
   where
-    by : (b : Bool) → are_named (if b then prop ∷ without_prop name props else without_prop name props) ≡ true
-    by true = let q = and_parts (is_property_name prop.name) (are_named props) h in λ i. q.0 i && named_left name props q.1 i
-    by false = named_left name props (and_parts (is_property_name prop.name) (are_named props) h).1
+    by : (b : Bool) → are_named (without_prop name props) ≡ true → are_named (if b then prop ∷ without_prop name props else without_prop name props) ≡ true
+    by true more = λ i. (and_parts (is_property_name prop.name) (are_named props) h).0 i && more i
+    by false more = more
 
 -- ---- steps
 
@@ -104,17 +104,17 @@ module _ (r : ℕ) where
   -- a node that is found is sound
   pub sound-found : (path : List ℕ) (tree : Tree) (found : TreeNode) → All Sound tree → at path tree ≡ Some found → IsSoundNode r found
   sound-found path [] found all e = absurd (cc)
-  sound-found path (p ∷ ps) found all e = by (slice_cmp_eq path p.0) e
+  sound-found path (p ∷ ps) found all e = by (eq_by_cmp (slice_cmp nat_cmp) path p.0) (λ h. sound-found path ps found (All-tail Sound p ps all) h) e
     where
-      slice_cmp_eq : List ℕ → List ℕ → Bool
-      slice_cmp_eq = eq_by_cmp (slice_cmp nat_cmp)
-
       is : p.1 ≡ found → IsSoundNode r found
       is same = subst (IsSoundNode r) same (All-head Sound p ps all)
 
-      by : (b : Bool) → cond b (Some p.1) (at path ps) ≡ Some found → IsSoundNode r found
-      by true same = is (cc same)
-      by false same = sound-found path ps found (All-tail Sound p ps all) same
+      one : (a b : TreeNode) → Some a ≡ Some b → a ≡ b
+      one a b h = cc
+
+      by : (b : Bool) → (at path ps ≡ Some found → IsSoundNode r found) → cond b (Some p.1) (at path ps) ≡ Some found → IsSoundNode r found
+      by true go same = is (one p.1 found same)
+      by false go same = go same
 
   sound_text : (text : List ℕ) (o : Option TreeNode) (path : List ℕ) (tree : Tree) → at path tree ≡ o → All Sound tree → IsSoundNode r (with_text r text o)
   sound_text text None path tree e all = record { created = omega arith; since = omega arith; source = tt; names = refl }

@@ -1,5 +1,5 @@
 -- Equal numbers have equal subtrees.
-use Rattle.std.proofs.Common.{◌≡◌, ℕ, zero, suc, ◌<◌, ◌≤◌, Bool, true, false, ◌&&◌, cond, List, [], ◌∷◌, ◌++◌, Option, None, Some, length, get_or, map, refl, sym, ap, subst, ◌∙◌, inl, inr, arith, length-append}
+use Rattle.std.proofs.Common.{◌≡◌, ℕ, zero, suc, ◌<◌, ◌≤◌, Bool, true, false, ◌&&◌, cond, List, [], ◌∷◌, ◌++◌, Option, None, Some, length, get_or, map, nat_eq, refl, sym, ap, subst, ◌∙◌, inl, inr, arith, length-append}
 use Rattle.std.specs.Prelude.{if◌then◌else◌, is_some}
 use Rattle.std.specs.List.{list_all, list_any, filter_map, cons_option, All}
 use Rattle.std.specs.Option.{option_map, option_map_or}
@@ -10,7 +10,7 @@ use Rattle.std.specs.Cmp.Lexicographic.{slice_cmp}
 use Rattle.std.proofs.lemmas.Bool.{and_parts, cases_lt}
 use Rattle.std.proofs.lemmas.List.Elements.{All-head, All-tail}
 use Rattle.dsv_base.specs.Paths.{is_path, is_component, root_text, front_of, or_root, before_last_slash, parent_text, name_of, join_text}
-use Rattle.dsv_base.proofs.Joins.{component_slash, component_some, before_last, not_root, parent_joined, name_of-join, join_parent}
+use Rattle.dsv_base.proofs.Joins.{component_slash, component_some, before_last, parent_joined, name_of-join, join_parent}
 use Rattle.rev_nodes.specs.declared.entry.Entry.{Entry}
 use Rattle.rev_nodes.specs.Trees.{at, is_dir}
 use Rattle.rev_nodes.specs.Forests.{Numbered, ForestRevision, Forest, no_revision, tree_of, places_at, place_at, id_at, node_at}
@@ -65,14 +65,11 @@ module _ (directory name : List ℕ) (is : is_path directory ≡ true) (named : 
       one : is_path p.0 ≡ true
       one = (All-head (IsSoundPlace forest rev) p ps all).path
 
-      abbrev rest : Option ℕ
-      rest = option_map (λ (q : Numbered). q.id) (find (slice_cmp nat_cmp) (join_text directory name) ps)
-
-      first : (b : Bool) → option_map (λ (q : Numbered). q.id) (cond b (Some p.1) (find (slice_cmp nat_cmp) (join_text directory name) ps)) ≡ cond b (Some p.1.id) rest
+      first : (b : Bool) → option_map (λ (q : Numbered). q.id) (cond b (Some p.1) (find (slice_cmp nat_cmp) (join_text directory name) ps)) ≡ cond b (Some p.1.id) (option_map (λ (q : Numbered). q.id) (find (slice_cmp nat_cmp) (join_text directory name) ps))
       first true = refl
       first false = refl
 
-      by : (child : Bool) → is_child directory p.0 ≡ child → find (slice_cmp nat_cmp) name (map key (filter_map (entry_in directory) ps)) ≡ rest
+      by : (child : Bool) → is_child directory p.0 ≡ child → find (slice_cmp nat_cmp) name (map key (filter_map (entry_in directory) ps)) ≡ option_map (λ (q : Numbered). q.id) (find (slice_cmp nat_cmp) (join_text directory name) ps)
           → find (slice_cmp nat_cmp) name (map key (cons_option (if child then Some (record { name = name_of p.0; id = p.1.id }) else None) (filter_map (entry_in directory) ps))) ≡ option_map (λ (q : Numbered). q.id) (cond (eq_by_cmp (slice_cmp nat_cmp) (join_text directory name) p.0) (Some p.1) (find (slice_cmp nat_cmp) (join_text directory name) ps))
       by true e more = (λ i. cond (same_ties p.0 one e i) (Some p.1.id) (more i)) ∙ sym (first (eq_by_cmp (slice_cmp nat_cmp) (join_text directory name) p.0))
       by false e more = more ∙ sym (ap (λ b. option_map (λ (q : Numbered). q.id) (cond b (Some p.1) (find (slice_cmp nat_cmp) (join_text directory name) ps))) (untied (join_text directory name) p.0 (λ same. let c = joined_child p.0 same in cc (c, e))))
@@ -86,6 +83,19 @@ front_back (b ∷ bs) h = by (bytes_eq (b ∷ bs) root_text) refl
     by : (root : Bool) → bytes_eq (b ∷ bs) root_text ≡ root → or_root (if root then [] else b ∷ bs) ≡ b ∷ bs
     by true e = sym (same_from (b ∷ bs) root_text e)
     by false e = refl
+
+some_name : (name : List ℕ) → nat_eq (length name) 0 ≡ false → name ≡ [] → ⊥
+some_name [] h e = cc
+some_name (b ∷ bs) h e = cc
+
+no_root : (front name : List ℕ) → (name ≡ [] → ⊥) → front ++ 47 ∷ name ≡ root_text → ⊥
+no_root [] [] some e = some refl
+no_root [] (b ∷ bs) some e = cc
+no_root (f ∷ []) name some e = cc
+no_root (f ∷ g ∷ gs) name some e = cc
+
+not_root : (front name : List ℕ) → nat_eq (length name) 0 ≡ false → bytes_eq (front ++ 47 ∷ name) root_text ≡ false
+not_root front name some = differ (front ++ 47 ∷ name) root_text (no_root front name (some_name name some))
 
 pub parent_back : (path name : List ℕ) → 1 ≤ length path → is_component name ≡ true → parent_text (join_text path name) ≡ Some path
 unfolding parent_text join_text

@@ -1,6 +1,6 @@
 -- What every node of a revision's tree has: revisions that are not yet to come, and property names of the
 -- grammar.
-use Rattle.std.specs.Prelude.{ℕ, ◌≤◌, ◌<◌, ⊤, List, Option, None, Some, IsTrue}
+use Rattle.std.specs.Prelude.{ℕ, ◌≤◌, ◌<◌, Bool, ⊤, List, Option, None, Some, IsTrue}
 use Rattle.std.specs.List.{list_all, All}
 use Rattle.dsv_base.specs.declared.prop.Prop.{Prop}
 use Rattle.rev_nodes.specs.PropertyNames.{is_property_name}

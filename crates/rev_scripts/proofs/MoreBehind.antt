@@ -10,7 +10,7 @@ use Rattle.dsv_base.specs.Gives.{◌>>=◌}
 use Rattle.dsv_base.specs.Lines.{cut_at, is_line_feed}
 use Rattle.dsv_base.specs.Paths.{is_path}
 use Rattle.dsv_base.specs.Names.{is_repository_name}
-use Rattle.dsv_base.specs.Numbers.{decimal, is_decimal, digits_after}
+use Rattle.dsv_base.specs.Numbers.{read_decimal, is_decimal, digits_after}
 use Rattle.rev_nodes.specs.declared.change.Change.TheVariants.{Put, Mkdir, Delete}
 use Rattle.rev_scripts.specs.declared.item.Item.TheVariants as item
 use Rattle.rev_scripts.specs.declared.item_fault.ItemFault.{ItemFault}
@@ -111,7 +111,7 @@ three_parts_more k m n text more =
 -- ---- numbers, of which none is above what stands behind the line
 
 number_more : (m n : ℕ) (text : List ℕ) → m ≤ n → Behind (λ a. a) (number_from m text) (number_from n text)
-unfolding decimal
+unfolding read_decimal
 number_more m n text h = by (is_decimal text) (nat_le (digits_after 0 text) m) refl (nat_le (digits_after 0 text) n) refl
   where
     by : (is low : Bool) → nat_le (digits_after 0 text) m ≡ low → (high : Bool) → nat_le (digits_after 0 text) n ≡ high → Behind (λ a. a) (or_bad (if is && low then Some (digits_after 0 text) else None)) (or_bad (if is && high then Some (digits_after 0 text) else None))

@@ -7,8 +7,7 @@ use Rattle.std.proofs.lemmas.Bool.{and_parts}
 use Rattle.std.proofs.lemmas.Bool.Decides.{nat_tests}
 use Rattle.std.proofs.lemmas.Fmt.{decimal_by_steps}
 use Rattle.std.proofs.lemmas.List.Folds.{list_all-append}
-use Rattle.dsv_base.specs.Numbers as numbers
-use Rattle.dsv_base.specs.Numbers.{is_digit, is_decimal, digits_after}
+use Rattle.dsv_base.specs.Numbers.{is_digit, is_decimal, digits_after, read_decimal}
 use Rattle.rev_scripts.specs.declared.item_fault.ItemFault.{ItemFault}
 use Rattle.rev_scripts.specs.Steps.{or_bad, number_from}
 
@@ -89,7 +88,7 @@ spelled : (n : ℕ) → n < 2 ^ 64 → IsSpelling n (decimal n)
 spelled = decimal_by_steps IsSpelling one_digit more_digits
 
 pub number_aloud : (most n : ℕ) (text : List ℕ) → most < 2 ^ 64 → number_from most text ≡ Ok n → text ≡ decimal n
-unfolding numbers.decimal
+unfolding read_decimal
 number_aloud most n text small e = by (is_decimal text) refl (nat_le (digits_after 0 text) most) refl e
   where
     by : (is : Bool) → is_decimal text ≡ is → (low : Bool) → nat_le (digits_after 0 text) most ≡ low → or_bad (if is && low then Some (digits_after 0 text) else None) ≡ Ok n → text ≡ decimal n

@@ -7,7 +7,7 @@ use std::snapshot::Snapshot;
 ///
 /// Contracts see the revisions that it was prepared on, the room that it needs, its commit, what
 /// this changed, and its tree.
-#[derive(Debug, Drop)]
+#[derive(Drop)]
 pub struct Ready {
     rev: Rev,
     revision: FlatRevision,
@@ -26,7 +26,7 @@ impl Model for Ready {
 }
 
 impl Ready {
-    ghost use Rattle.std.specs.Prelude.{◌≡◌, ◌×◌, List};
+    ghost use Rattle.std.specs.Prelude.{◌≡◌, List};
     ghost use Rattle.rev_trees.specs.declared.revision.FlatRevision.{FlatRevision};
     ghost use Rattle.rev_trees.specs.Kept.{ready_of, IsReady};
 
