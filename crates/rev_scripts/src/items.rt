@@ -8,9 +8,7 @@ ghost use Rattle.rev_scripts.specs.Items.{prop_from, mkdir_from, delete_from, pu
 use crate::cursor::{line_from, number_from, word_from};
 use crate::item::Item;
 use crate::item_fault::ItemFault;
-use crate::parts::{
-    copy_numbers, one_part, three_lengths, three_parts, two_lengths, two_parts,
-};
+use crate::parts::{copy_numbers, one_part, three_lengths, three_parts, two_lengths, two_parts};
 use dsv_base::{Bytes, Path, PathFault, Prop, Rev};
 use rev_nodes::{Change, is_property_name, is_revision_property};
 use std::alloc::Global;
