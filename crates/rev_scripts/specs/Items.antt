@@ -48,18 +48,21 @@ copy_numbers most number numbers = do
 
 -- ---- the bytes after it: so many parts, which a line feed ends, and what stands after that
 
+-- one part of this size
 abbrev pub one_part : ℕ → List ℕ → Result (List ℕ × List ℕ) ItemFault
 one_part size text = do
   one ← bytes_from size text
   rest ← after_front (codes "\n") one.1
   Ok (one.0, rest)
 
+-- two parts of these sizes
 abbrev pub two_parts : ℕ → ℕ → List ℕ → Result (List ℕ × List ℕ × List ℕ) ItemFault
 two_parts first second text = do
   one ← bytes_from first text
   two ← one_part second one.1
   Ok (one.0, two.0, two.1)
 
+-- three parts of these sizes
 abbrev pub three_parts : ℕ → ℕ → ℕ → List ℕ → Result (List ℕ × List ℕ × List ℕ × List ℕ) ItemFault
 three_parts first second third text = do
   one ← bytes_from first text
@@ -68,30 +71,35 @@ three_parts first second third text = do
 
 -- ---- the items
 
+-- a property of the revision itself
 abbrev pub prop_from : List ℕ → List ℕ → Result (Item × List ℕ) ItemFault
 prop_from numbers text = do
   sizes ← two_lengths (length text) numbers
   parts ← two_parts sizes.0 sizes.1 text
   ok_where (is_revision_property parts.0) (item.Prop (record { name = parts.0; value = parts.1 }), parts.2)
 
+-- a directory that is added
 abbrev pub mkdir_from : List ℕ → List ℕ → Result (Item × List ℕ) ItemFault
 mkdir_from numbers text = do
   size ← number_from (length text) numbers
   parts ← one_part size text
   ok_where (is_path parts.0) (item.Change (Mkdir parts.0), parts.1)
 
+-- a node that is removed
 abbrev pub delete_from : List ℕ → List ℕ → Result (Item × List ℕ) ItemFault
 delete_from numbers text = do
   size ← number_from (length text) numbers
   parts ← one_part size text
   ok_where (is_path parts.0) (item.Change (Delete parts.0), parts.1)
 
+-- a text that is set
 abbrev pub put_from : List ℕ → List ℕ → Result (Item × List ℕ) ItemFault
 put_from numbers text = do
   sizes ← two_lengths (length text) numbers
   parts ← two_parts sizes.0 sizes.1 text
   ok_where (is_path parts.0) (item.Change (Put parts.0 parts.1), parts.2)
 
+-- a property of a node that is set
 abbrev pub setprop_from : List ℕ → List ℕ → Result (Item × List ℕ) ItemFault
 setprop_from numbers text = do
   sizes ← three_lengths (length text) numbers
@@ -100,6 +108,7 @@ setprop_from numbers text = do
   name ← ok_where (is_property_name parts.1) parts.1
   Ok (item.Change (SetProp path name parts.2), parts.3)
 
+-- a property of a node that is removed
 abbrev pub delprop_from : List ℕ → List ℕ → Result (Item × List ℕ) ItemFault
 delprop_from numbers text = do
   sizes ← two_lengths (length text) numbers
@@ -108,6 +117,7 @@ delprop_from numbers text = do
   name ← ok_where (is_property_name parts.1) parts.1
   Ok (item.Change (DelProp path name), parts.2)
 
+-- a copy, in the revision of this number
 abbrev pub copy_from : ℕ → List ℕ → List ℕ → Result (Item × List ℕ) ItemFault
 copy_from number numbers text = do
   told ← copy_numbers (length text) number numbers
@@ -144,6 +154,7 @@ pub record Told : Type 0 where
   pub changes : List Change
   pub lines : List ℕ
 
+-- before the first item
 abbrev pub nothing_told : Told
 nothing_told = record { props = []; changes = []; lines = [] }
 
@@ -157,8 +168,10 @@ may_follow number told item.End = true
 may_follow number told (item.Prop prop) = nat_eq (length told.changes) 0 && is_next_name told.props prop.name
 may_follow number told (item.Change change) = nat_le 1 number
 
+-- one property more was told
 abbrev pub with_prop : Told → Prop → Told
 with_prop told prop = record told { props = told.props ++ prop ∷ [] }
 
+-- one change more was told, at this line
 abbrev pub with_change : Told → Change → ℕ → Told
 with_change told change line = record told { changes = told.changes ++ change ∷ []; lines = told.lines ++ line ∷ [] }

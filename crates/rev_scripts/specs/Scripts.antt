@@ -63,11 +63,13 @@ next_item number told line text = at_line line (item_from number text >>= (λ re
 abbrev pub Items : Type 0
 Items = Told × Result (ℕ × List ℕ) ScriptFault
 
+-- what an item tells, and what the others after it tell
 abbrev pub after_item : (Told → ℕ → List ℕ → Items) → Told → ℕ → ℕ → Item × List ℕ → Items
 after_item others told line next (item.End, rest) = (told, Ok (next, rest))
 after_item others told line next (item.Prop prop, rest) = others (with_prop told prop) next rest
 after_item others told line next (item.Change change, rest) = others (with_change told change line) next rest
 
+-- the same for an item that was read, or else its fault
 abbrev pub and_others : (Told → ℕ → List ℕ → Items) → Told → ℕ → List ℕ → Result (Item × List ℕ) ScriptFault → Items
 and_others others told line text (Err fault) = (told, Err fault)
 and_others others told line text (Ok read) = after_item others told line (line_after line text read.1) read
@@ -77,6 +79,7 @@ unfoldable pub items_from : ℕ → ℕ → Told → ℕ → List ℕ → Items
 items_from zero number told line text = (told, Err (BadScript line))
 items_from (suc steps) number told line text = and_others (items_from steps number) told line text (next_item number told line text)
 
+-- the commit of what was told
 abbrev pub commit_of : List ℕ → ℕ → Told → Commit
 commit_of author moment told = record { author = author; moment = moment; props = told.props; changes = told.changes }
 
@@ -86,6 +89,7 @@ pub record Read : Type 0 where
   pub lines : List ℕ
   pub after : Result (ℕ × List ℕ) ScriptFault
 
+-- a revision by its head and its items
 abbrev pub read_of : ℕ × List ℕ × List ℕ → Items → Read
 read_of head items = record { commit = commit_of head.1 head.0 items.0; lines = items.0.lines; after = items.1 }
 
@@ -127,6 +131,7 @@ repository_from bytes = do
   revisions ← revisions_from (length after.1) (first_revision zeroth.commit ∷ []) after.0 after.1
   Ok (record { name = heading.0; uuid = heading.1; revisions = revisions })
 
+-- want of memory, which is no fault of the script
 abbrev pub wants_memory : ScriptFault → Bool
 wants_memory (BadScript line) = false
 wants_memory NoMemory = true

@@ -20,15 +20,19 @@ use Rattle.rev_scripts.specs.Scripts.{revision_from, repository_from}
 abbrev pub one_number : List ℕ → ℕ → List ℕ
 one_number word one = word ++ codes " " ++ decimal one ++ codes "\n"
 
+-- the same with two numbers
 abbrev pub two_numbers : List ℕ → ℕ → ℕ → List ℕ
 two_numbers word one two = word ++ codes " " ++ decimal one ++ codes " " ++ decimal two ++ codes "\n"
 
+-- the same with three numbers
 abbrev pub three_numbers : List ℕ → ℕ → ℕ → ℕ → List ℕ
 three_numbers word one two three = word ++ codes " " ++ decimal one ++ codes " " ++ decimal two ++ codes " " ++ decimal three ++ codes "\n"
 
+-- a property of the revision
 abbrev pub prop_text : Prop → List ℕ
 prop_text prop = two_numbers (codes "prop") (length prop.name) (length prop.value) ++ prop.name ++ prop.value ++ codes "\n"
 
+-- a change of the revision
 abbrev pub change_text : Change → List ℕ
 change_text (Put path text) = two_numbers (codes "put") (length path) (length text) ++ path ++ text ++ codes "\n"
 change_text (SetProp path name value) = three_numbers (codes "setprop") (length path) (length name) (length value) ++ path ++ name ++ value ++ codes "\n"
@@ -37,6 +41,7 @@ change_text (Mkdir path) = one_number (codes "mkdir") (length path) ++ path ++ c
 change_text (Delete path) = one_number (codes "delete") (length path) ++ path ++ codes "\n"
 change_text (Copy source rev path) = three_numbers (codes "copy") (length source) rev (length path) ++ source ++ path ++ codes "\n"
 
+-- the first line of the revision, and its author
 abbrev pub head_text : ℕ → Commit → List ℕ
 head_text number commit = three_numbers (codes "revision") number commit.moment (length commit.author) ++ commit.author ++ codes "\n"
 
@@ -50,6 +55,7 @@ revision_text number commit = head_text number commit ++ flat_map prop_text comm
 abbrev pub is_short : List ℕ → Bool
 is_short text = nat_lt (length text) 18446744073709551616
 
+-- a property that a script can tell
 abbrev pub is_tellable_prop : Prop → Bool
 is_tellable_prop prop = is_revision_property prop.name && is_short prop.value
 

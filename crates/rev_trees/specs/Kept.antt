@@ -19,13 +19,16 @@ use Rattle.rev_nodes.specs.declared.commit.Commit.{Commit}
 use Rattle.std.specs.List.{All}
 use Rattle.rev_nodes.specs.declared.entry.Entry.{Entry}
 
+-- a revision as callers see it
 abbrev pub numbered_revision : ℕ → FlatRevision → ForestRevision
 numbered_revision rev revision = record { commit = revision.commit; changed = revision.changed; places = numbered_from rev 0 revision.places }
 
+-- revisions as callers see them, of which the first has this number
 abbrev pub revisions_from : ℕ → List FlatRevision → List ForestRevision
 revisions_from rev [] = []
 revisions_from rev (revision ∷ revisions) = numbered_revision rev revision ∷ revisions_from (rev + 1) revisions
 
+-- the trees as callers see them
 abbrev pub forest_of : List ℕ → List ℕ → List FlatRevision → ℕ → Forest
 forest_of name uuid revisions room = record { name = name; uuid = uuid; revisions = revisions_from 0 revisions; room = room }
 
@@ -37,6 +40,7 @@ no_flat_revision = record { commit = no_commit; changed = []; places = []; entri
 abbrev pub root_place : Place
 root_place = record { path = root_text; node = record { kind = Dir; props = []; text = []; created = 0 }; line = record { since = 0; source = None } }
 
+-- the places of a revision, none past the youngest
 abbrev pub places_in : List FlatRevision → ℕ → List Place
 places_in revisions rev = (slice_index_or revisions rev no_flat_revision).places
 
@@ -44,6 +48,7 @@ places_in revisions rev = (slice_index_or revisions rev no_flat_revision).places
 abbrev pub commit_in : List FlatRevision → ℕ → Commit
 commit_in revisions rev = (slice_index_or revisions rev no_flat_revision).commit
 
+-- what stands in the places of a revision
 abbrev pub lists_in : List FlatRevision → ℕ → List (List Entry)
 lists_in revisions rev = (slice_index_or revisions rev no_flat_revision).entries
 

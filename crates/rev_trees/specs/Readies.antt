@@ -23,6 +23,7 @@ pub record IsReadyOn (ready : ReadyRevision) (forest : Forest) : Type 0 where
   pub base : ready.base ≡ forest.revisions
   pub roomy : ready.needs ≤ forest.room
 
+-- the revisions of the trees, without the numbers of nodes
 abbrev pub revisions_of : Forest → List Revision
 revisions_of forest = map without_numbers forest.revisions
 
