@@ -17,7 +17,7 @@ use Rattle.rev_nodes.specs.ChangedPaths.{path_of, changed_paths}
 abbrev pub has_named_path : Change → Bool
 has_named_path change = is_path (path_of change)
 
--- the same as a fact
+-- the path that a change names is one, as a fact
 abbrev pub has_path : Change → Type 0
 has_path change = IsTrue (has_named_path change)
 

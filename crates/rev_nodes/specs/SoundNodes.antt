@@ -27,6 +27,6 @@ pub record IsSoundNode (r : ℕ) (found : TreeNode) : Type 0 where
 abbrev pub HasSoundNode : ℕ → List ℕ × TreeNode → Type 0
 HasSoundNode r place = IsSoundNode r place.1
 
--- the nodes of each revision are
+-- the nodes of each revision are sound
 abbrev pub AreSoundNodes : Forest → Type 0
 AreSoundNodes forest = (rev : ℕ) → All (HasSoundNode rev) (tree_of (places_at forest rev))

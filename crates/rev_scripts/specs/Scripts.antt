@@ -47,7 +47,8 @@ revision_line most number line = do
   author ← number_from most second.1
   ok_where (told == number) (moment, author)
 
--- that line with the author after it: moment, author, and what stands after them
+-- the first line of the revision of this number, and its author: its moment, its author, and what stands after
+-- them
 unfoldable pub revision_head : ℕ → List ℕ → Result (ℕ × List ℕ × List ℕ) ItemFault
 revision_head number text = do
   line ← line_from text
@@ -69,7 +70,7 @@ after_item others told line next (item.End, rest) = (told, Ok (next, rest))
 after_item others told line next (item.Prop prop, rest) = others (with_prop told prop) next rest
 after_item others told line next (item.Change change, rest) = others (with_change told change line) next rest
 
--- the same for an item that was read, or else its fault
+-- what an item and those after it tell, or the fault of an item that can't be read
 abbrev pub and_others : (Told → ℕ → List ℕ → Items) → Told → ℕ → List ℕ → Result (Item × List ℕ) ScriptFault → Items
 and_others others told line text (Err fault) = (told, Err fault)
 and_others others told line text (Ok read) = after_item others told line (line_after line text read.1) read

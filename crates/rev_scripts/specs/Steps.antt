@@ -8,7 +8,7 @@ use Rattle.rev_scripts.specs.declared.item_fault.ItemFault.TheVariants.{Bad, NoM
 use Rattle.rev_scripts.specs.declared.script_fault.ScriptFault.{ScriptFault}
 use Rattle.rev_scripts.specs.declared.script_fault.ScriptFault.TheVariants as script
 
--- nothing is not in the grammar
+-- the value; where there is none, the text isn't in the grammar
 abbrev pub or_bad : {X : Type 0} → Option X → Result X ItemFault
 or_bad None = Err Bad
 or_bad (Some x) = Ok x

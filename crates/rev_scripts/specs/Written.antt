@@ -16,15 +16,15 @@ use Rattle.rev_scripts.specs.Scripts.{revision_from, repository_from}
 
 -- ---- the text
 
--- a line of a word and numbers, with its line feed
+-- a line of a word and a number, with its line feed
 abbrev pub one_number : List ℕ → ℕ → List ℕ
 one_number word one = word ++ codes " " ++ decimal one ++ codes "\n"
 
--- the same with two numbers
+-- a line of a word and two numbers
 abbrev pub two_numbers : List ℕ → ℕ → ℕ → List ℕ
 two_numbers word one two = word ++ codes " " ++ decimal one ++ codes " " ++ decimal two ++ codes "\n"
 
--- the same with three numbers
+-- a line of a word and three numbers
 abbrev pub three_numbers : List ℕ → ℕ → ℕ → ℕ → List ℕ
 three_numbers word one two three = word ++ codes " " ++ decimal one ++ codes " " ++ decimal two ++ codes " " ++ decimal three ++ codes "\n"
 
