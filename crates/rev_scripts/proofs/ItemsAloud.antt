@@ -26,7 +26,7 @@ use Rattle.rev_scripts.proofs.TextsBack.{one_line, two_line, three_line, one_tex
 
 -- ---- steps
 
-cut_aloud : (byte : ℕ) (text : List ℕ) (cut : List ℕ × List ℕ) → or_bad (cut_at byte text) ≡ Ok cut → text ≡ cut.0 ++ byte ∷ cut.1
+pub cut_aloud : (byte : ℕ) (text : List ℕ) (cut : List ℕ × List ℕ) → or_bad (cut_at byte text) ≡ Ok cut → text ≡ cut.0 ++ byte ∷ cut.1
 cut_aloud byte [] cut e = absurd (cc)
 cut_aloud byte (b ∷ bs) cut e = by (b == byte) refl (cut_at byte bs) (λ later h. cut_aloud byte bs later (ap or_bad h)) e
   where

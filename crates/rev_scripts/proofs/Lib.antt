@@ -9,4 +9,5 @@ pub mod ItemsBack
 pub mod MoreBehind
 pub mod ReadRevisions
 pub mod RevisionBack
+pub mod ScriptAloud
 pub mod ScriptRows

@@ -183,12 +183,12 @@ change_told told change line sound one = record {
   changes = one_more is_sound_change told.changes change sound.changes one;
 }
 
-at_line_ok : {X : Type 0} (line : ℕ) (r : Result X ItemFault) (x : X) → at_line line r ≡ Ok x → r ≡ Ok x
+pub at_line_ok : {X : Type 0} (line : ℕ) (r : Result X ItemFault) (x : X) → at_line line r ≡ Ok x → r ≡ Ok x
 at_line_ok line (Ok y) x e = cc
 at_line_ok line (Err fault) x e = absurd (cc)
 
 -- an item that was taken is sound, and may stand there
-taken_sounds : (number : ℕ) (told : Told) (line : ℕ) (text : List ℕ) (read : Item × List ℕ) → next_item number told line text ≡ Ok read → IsSoundItem read.0 × (may_follow number told read.0 ≡ true)
+pub taken_sounds : (number : ℕ) (told : Told) (line : ℕ) (text : List ℕ) (read : Item × List ℕ) → next_item number told line text ≡ Ok read → IsSoundItem read.0 × (may_follow number told read.0 ≡ true)
 unfolding next_item
 taken_sounds number told line text read e =
     let a = went_on (item_from number text) (λ read. ok_where (may_follow number told read.0) read) read (at_line_ok line (item_from number text >>= (λ read. ok_where (may_follow number told read.0) read)) read e) in
