@@ -7,7 +7,7 @@ use Rattle.std.proofs.lemmas.Bool.{and_from, and_right}
 use Rattle.std.proofs.lemmas.Bool.Decides.{nat_tests}
 use Rattle.dsv_base.specs.Lines.{cut_at}
 use Rattle.dsv_base.specs.Paths.{is_slash, is_component, is_path, components, root_text, join_text}
-use Rattle.dav_names.specs.Targets.{after_slash, path_text, path_of, me_at, rev_at, txn_at}
+use Rattle.dav_names.specs.Targets.{after_slash, path_text, path_from_parts, me_at, rev_at, txn_at}
 
 -- the components as a cut gives them
 abbrev pub cut_parts : List ℕ → Option (List ℕ × List ℕ) → List (List ℕ)
@@ -66,16 +66,16 @@ pub components_from_path : (text : List ℕ) → nat_eq (length text) 0 ≡ fals
 unfolding is_path
 components_from_path text some h = grind (arith, nat_tests)
 
-pub path_of-some : (text : List ℕ) → nat_eq (length text) 0 ≡ false → is_path (47 ∷ text) ≡ true → path_of (components text) ≡ Some (47 ∷ text)
-unfolding path_of
-path_of-some text some h =
+pub path_from_parts-some : (text : List ℕ) → nat_eq (length text) 0 ≡ false → is_path (47 ∷ text) ≡ true → path_from_parts (components text) ≡ Some (47 ∷ text)
+unfolding path_from_parts
+path_from_parts-some text some h =
     let text_is = path_text-components text in
     let all : (list_all is_component (components text) && is_path (path_text (components text))) ≡ true = and_from _ _ (components_from_path text some h) (ap is_path text_is ∙ h) in
     ap (λ b. if b then Some (path_text (components text)) else None) all ∙ ap Some text_is
 
-pub path_of-none : (text : List ℕ) → is_path (47 ∷ text) ≡ false → path_of (components text) ≡ None
-unfolding path_of
-path_of-none text h =
+pub path_from_parts-none : (text : List ℕ) → is_path (47 ∷ text) ≡ false → path_from_parts (components text) ≡ None
+unfolding path_from_parts
+path_from_parts-none text h =
     let none : (list_all is_component (components text) && is_path (path_text (components text))) ≡ false = and_right _ _ (ap is_path (path_text-components text) ∙ h) in
     ap (λ b. if b then Some (path_text (components text)) else None) none
 
@@ -84,13 +84,13 @@ unfolding join_text
 joined_root text = refl
 
 -- the same of a text that was joined to `/`
-pub path_of-joined : (root text path : List ℕ) → root ≡ root_text → 1 ≤ length text → path ≡ join_text root text → is_path (join_text root text) ≡ true → Some path ≡ path_of (components text)
-path_of-joined root text path e some joined h =
+pub path_from_parts-joined : (root text path : List ℕ) → root ≡ root_text → 1 ≤ length text → path ≡ join_text root text → is_path (join_text root text) ≡ true → Some path ≡ path_from_parts (components text)
+path_from_parts-joined root text path e some joined h =
     let whole : join_text root text ≡ 47 ∷ text = ap (λ r. join_text r text) e ∙ joined_root text in
     let longer : nat_eq (length text) 0 ≡ false = grind (arith, nat_tests) in
-    ap Some (joined ∙ whole) ∙ sym (path_of-some text longer (sym (ap is_path whole) ∙ h))
+    ap Some (joined ∙ whole) ∙ sym (path_from_parts-some text longer (sym (ap is_path whole) ∙ h))
 
-pub path_of-refused : (root text : List ℕ) → root ≡ root_text → is_path (join_text root text) ≡ false → None ≡ path_of (components text)
-path_of-refused root text e h =
+pub path_from_parts-refused : (root text : List ℕ) → root ≡ root_text → is_path (join_text root text) ≡ false → None ≡ path_from_parts (components text)
+path_from_parts-refused root text e h =
     let whole : join_text root text ≡ 47 ∷ text = ap (λ r. join_text r text) e ∙ joined_root text in
-    sym (path_of-none text (sym (ap is_path whole) ∙ h))
+    sym (path_from_parts-none text (sym (ap is_path whole) ∙ h))

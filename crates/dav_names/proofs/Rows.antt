@@ -10,7 +10,7 @@ use Rattle.dsv_base.specs.declared.txn_name.TxnName.{TxnName}
 use Rattle.std.specs.Fmt.{digits}
 use Rattle.dav_names.specs.declared.resource.Resource.TheVariants.{Public, Me, Rvr, RevOnly, Txr, Txn}
 use Rattle.dav_names.specs.Escaped.{unescaped}
-use Rattle.dav_names.specs.Targets.{named, path_of, target, target_path, txn_named, without_slash}
+use Rattle.dav_names.specs.Targets.{resource_behind, path_from_parts, target, target_path, txn_named, without_slash}
 use Rattle.dav_names.specs.Written.{resource_text, target_text}
 
 abbrev demo : List ℕ
@@ -26,7 +26,7 @@ read : (target demo (codes "/svn/demo/a%20b/") ≡ Some (Public (codes "/a b")))
     × (target demo (codes "/svn/demo/!svn/rev/2000000000") ≡ Some (RevOnly 2000000000))
     × (target demo (codes "/svn/demo/!svn/txr/3-1") ≡ Some (Txr three_one (codes "/")))
     × (target demo (codes "/svn/demo/!svn/txn/3-1") ≡ Some (Txn three_one))
-unfolding target target_path without_slash unescaped percent_decode named path_of is_path read_decimal txn_named is_utf8 chars encode
+unfolding target target_path without_slash unescaped percent_decode resource_behind path_from_parts is_path read_decimal txn_named is_utf8 chars encode
 read = (refl, refl, refl, refl, refl, refl, refl)
 
 unread : (target demo (codes "/svn/demoX") ≡ None)
@@ -36,7 +36,7 @@ unread : (target demo (codes "/svn/demoX") ≡ None)
     × (target demo (codes "/svn/demo/%2") ≡ None)
     × (target demo (codes "/svn/demo/!svn/rvr/05") ≡ None)
     × (target demo (codes "/svn/demo/!svn/txn/3-0") ≡ None)
-unfolding target target_path without_slash unescaped percent_decode named path_of is_path read_decimal txn_named is_utf8 chars encode
+unfolding target target_path without_slash unescaped percent_decode resource_behind path_from_parts is_path read_decimal txn_named is_utf8 chars encode
 unread = (refl, refl, refl, refl, refl, refl, refl)
 
 written : (target_text demo (Public (codes "/")) ≡ demo)

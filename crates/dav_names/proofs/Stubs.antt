@@ -15,9 +15,9 @@ use Rattle.dsv_base.specs.Paths.{components, front_of, is_component, is_path, is
 use Rattle.dsv_base.specs.declared.txn_name.TxnName.{TxnName}
 use Rattle.dsv_base.proofs.Joins.{components-append, components-one}
 use Rattle.dav_names.specs.declared.resource.Resource.TheVariants.{Public, Me, Rvr, RevOnly, Txr, Txn}
-use Rattle.dav_names.specs.Targets.{named, path_of, rev_named, resource_at, special_at, rvr_at, rev_at, txr_at, txn_at, txn_named, txn_of, txn_parts}
+use Rattle.dav_names.specs.Targets.{resource_behind, path_from_parts, rev_named, resource_at, special_at, rvr_at, rev_at, txr_at, txn_at, txn_named, txn_of, txn_parts}
 use Rattle.dav_names.specs.Written.{txn_text, IsName}
-use Rattle.dav_names.proofs.Components.{first_of_parts, components_from_path, path_of-some}
+use Rattle.dav_names.proofs.Components.{first_of_parts, components_from_path, path_from_parts-some}
 use Rattle.dsv_base.proofs.Decimals.{not_in_written, read_back}
 
 root_only : (p : List ℕ) → bytes_eq p root_text ≡ true → p ≡ root_text
@@ -47,10 +47,10 @@ below_root (b ∷ bs) path other =
 pub record Behind (first p : List ℕ) : Type 0 where
   pub parts : List (List ℕ)
   pub are : components (first ++ front_of p) ≡ first ∷ parts
-  pub path : path_of parts ≡ Some p
+  pub path : path_from_parts parts ≡ Some p
 
-root_path : path_of [] ≡ Some root_text
-unfolding path_of is_path
+root_path : path_from_parts [] ≡ Some root_text
+unfolding path_from_parts is_path
 root_path = refl
 
 pub behind : (first p : List ℕ) → list_any is_slash first ≡ false → is_path p ≡ true → Behind first p
@@ -67,7 +67,7 @@ behind first p none path = either (bytes_eq p root_text) refl
         record {
           parts = components rest.below;
           are = ap (λ b. components (first ++ (if b then [] else p))) e ∙ ap (λ p. components (first ++ p)) rest.is ∙ components-append first rest.below ∙ ap (λ parts. parts ++ components rest.below) (components-one first none);
-          path = path_of-some rest.below rest.some (sym (ap is_path rest.is) ∙ path) ∙ ap Some (sym rest.is);
+          path = path_from_parts-some rest.below rest.some (sym (ap is_path rest.is) ∙ path) ∙ ap Some (sym rest.is);
         }
 
 -- no component is `!svn`
@@ -111,44 +111,44 @@ name_written name in_range some =
 
 -- ---- what is written behind the root, with its escapes read
 
-pub public_named : (p : List ℕ) → is_path p ≡ true → named (front_of p) ≡ Some (Public p)
-unfolding named
+pub public_named : (p : List ℕ) → is_path p ≡ true → resource_behind (front_of p) ≡ Some (Public p)
+unfolding resource_behind
 public_named p path = either (bytes_eq p root_text) refl
   where
-    either : (is_root : Bool) → bytes_eq p root_text ≡ is_root → named (if is_root then [] else p) ≡ Some (Public p)
+    either : (is_root : Bool) → bytes_eq p root_text ≡ is_root → resource_behind (if is_root then [] else p) ≡ Some (Public p)
     either true e = ap (λ p. Some (Public p)) (sym (root_only p e))
     either false e =
         let rest = below_root p path e in
         let first = first_of_parts rest.below in
         let all : list_all is_component (components rest.below) ≡ true = components_from_path rest.below rest.some (sym (ap is_path rest.is) ∙ path) in
         let one : is_component first.0 ≡ true = (and_parts (is_component first.0) (list_all is_component first.1.0) (sym (ap (list_all is_component) first.1.1) ∙ all)).0 in
-        ap named rest.is
+        ap resource_behind rest.is
         ∙ ap resource_at first.1.1
-        ∙ ap (λ b. if b then special_at first.1.0 else option_map Public (path_of (first.0 ∷ first.1.0))) (not_special first.0 one)
-        ∙ ap (λ parts. option_map Public (path_of parts)) (sym first.1.1)
-        ∙ ap (option_map Public) (path_of-some rest.below rest.some (sym (ap is_path rest.is) ∙ path))
+        ∙ ap (λ b. if b then special_at first.1.0 else option_map Public (path_from_parts (first.0 ∷ first.1.0))) (not_special first.0 one)
+        ∙ ap (λ parts. option_map Public (path_from_parts parts)) (sym first.1.1)
+        ∙ ap (option_map Public) (path_from_parts-some rest.below rest.some (sym (ap is_path rest.is) ∙ path))
         ∙ ap (λ p. Some (Public p)) (sym rest.is)
 
-pub me_named : named (codes "/!svn/me") ≡ Some Me
-unfolding named
+pub me_named : resource_behind (codes "/!svn/me") ≡ Some Me
+unfolding resource_behind
 me_named = refl
 
-pub rvr_named : (rev : ℕ) (p : List ℕ) → rev ≤ 2000000000 → is_path p ≡ true → named (codes "/!svn/rvr/" ++ (decimal rev ++ front_of p)) ≡ Some (Rvr rev p)
-unfolding named
+pub rvr_named : (rev : ℕ) (p : List ℕ) → rev ≤ 2000000000 → is_path p ≡ true → resource_behind (codes "/!svn/rvr/" ++ (decimal rev ++ front_of p)) ≡ Some (Rvr rev p)
+unfolding resource_behind
 rvr_named rev p few path =
     let rest = behind (decimal rev) p (not_in_written is_slash digit_no_slash rev (omega (arith, few))) path in
-    ap rvr_at rest.are ∙ ap (option_and_then (λ rev. option_map (Rvr rev) (path_of rest.parts))) (rev_written rev few) ∙ ap (option_map (Rvr rev)) rest.path
+    ap rvr_at rest.are ∙ ap (option_and_then (λ rev. option_map (Rvr rev) (path_from_parts rest.parts))) (rev_written rev few) ∙ ap (option_map (Rvr rev)) rest.path
 
-pub rev_named_alone : (rev : ℕ) → rev ≤ 2000000000 → named (codes "/!svn/rev/" ++ decimal rev) ≡ Some (RevOnly rev)
-unfolding named
+pub rev_named_alone : (rev : ℕ) → rev ≤ 2000000000 → resource_behind (codes "/!svn/rev/" ++ decimal rev) ≡ Some (RevOnly rev)
+unfolding resource_behind
 rev_named_alone rev few = ap rev_at (components-one (decimal rev) (not_in_written is_slash digit_no_slash rev (omega (arith, few)))) ∙ ap (option_map RevOnly) (rev_written rev few)
 
-pub txr_named : (name : TxnName) (p : List ℕ) → IsName name → not (name.number == 0) ≡ true → is_path p ≡ true → named (codes "/!svn/txr/" ++ (txn_text name ++ front_of p)) ≡ Some (Txr name p)
-unfolding named
+pub txr_named : (name : TxnName) (p : List ℕ) → IsName name → not (name.number == 0) ≡ true → is_path p ≡ true → resource_behind (codes "/!svn/txr/" ++ (txn_text name ++ front_of p)) ≡ Some (Txr name p)
+unfolding resource_behind
 txr_named name p in_range some path =
     let rest = behind (txn_text name) p (name_slash name in_range) path in
-    ap txr_at rest.are ∙ ap (option_and_then (λ name. option_map (Txr name) (path_of rest.parts))) (name_written name in_range some) ∙ ap (option_map (Txr name)) rest.path
+    ap txr_at rest.are ∙ ap (option_and_then (λ name. option_map (Txr name) (path_from_parts rest.parts))) (name_written name in_range some) ∙ ap (option_map (Txr name)) rest.path
 
-pub txn_named_alone : (name : TxnName) → IsName name → not (name.number == 0) ≡ true → named (codes "/!svn/txn/" ++ txn_text name) ≡ Some (Txn name)
-unfolding named
+pub txn_named_alone : (name : TxnName) → IsName name → not (name.number == 0) ≡ true → resource_behind (codes "/!svn/txn/" ++ txn_text name) ≡ Some (Txn name)
+unfolding resource_behind
 txn_named_alone name in_range some = ap txn_at (components-one (txn_text name) (name_slash name in_range)) ∙ ap (option_map Txn) (name_written name in_range some)

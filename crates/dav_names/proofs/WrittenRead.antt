@@ -18,7 +18,7 @@ use Rattle.dsv_base.specs.declared.txn_name.TxnName.{TxnName}
 use Rattle.dav_names.specs.declared.resource.Resource.{Resource}
 use Rattle.dav_names.specs.declared.resource.Resource.TheVariants.{Public, Me, Rvr, RevOnly, Txr, Txn}
 use Rattle.dav_names.specs.Escaped.{unescaped}
-use Rattle.dav_names.specs.Targets.{is_mark, named, rest_named, target, without_slash}
+use Rattle.dav_names.specs.Targets.{is_mark, resource_behind, rest_named, target, without_slash}
 use Rattle.dav_names.specs.Written.{IsInRange, IsName, is_numbered, is_root, path_end, resource_text, target_text, txn_text}
 use Rattle.dsv_base.proofs.Decimals.{not_in_written}
 use Rattle.dav_names.proofs.Ends.{keeps_end, keeps_path}
@@ -34,20 +34,20 @@ front_bytes p small = either (bytes_eq p root_text)
     either false = small
 
 -- a front without escapes, and a path
-read_path : (xs p : List ℕ) (r : Resource) → list_any is_percent xs ≡ false → without_slash xs ≡ xs → is_path p ≡ true → All IsByte p → named (xs ++ front_of p) ≡ Some r → rest_named (xs ++ path_end p) ≡ Some r
+read_path : (xs p : List ℕ) (r : Resource) → list_any is_percent xs ≡ false → without_slash xs ≡ xs → is_path p ≡ true → All IsByte p → resource_behind (xs ++ front_of p) ≡ Some r → rest_named (xs ++ path_end p) ≡ Some r
 read_path xs p r none kept path small names =
-    ap (λ text. option_and_then named (unescaped text)) (keeps_path xs p kept path)
-    ∙ ap (option_and_then named) (unescaped-url xs (front_of p) none (front_bytes p small))
+    ap (λ text. option_and_then resource_behind (unescaped text)) (keeps_path xs p kept path)
+    ∙ ap (option_and_then resource_behind) (unescaped-url xs (front_of p) none (front_bytes p small))
     ∙ names
 
 -- such a front alone
-read_alone : (xs : List ℕ) (r : Resource) → list_any is_percent xs ≡ false → without_slash xs ≡ xs → named xs ≡ Some r → rest_named xs ≡ Some r
+read_alone : (xs : List ℕ) (r : Resource) → list_any is_percent xs ≡ false → without_slash xs ≡ xs → resource_behind xs ≡ Some r → rest_named xs ≡ Some r
 unfolding url_text
 read_alone xs r none kept names =
-    ap (λ text. option_and_then named (unescaped text)) kept
-    ∙ ap (λ text. option_and_then named (unescaped text)) (sym (append-nil xs))
-    ∙ ap (option_and_then named) (unescaped-url xs [] none (All-nil IsByte))
-    ∙ ap named (append-nil xs) ∙ names
+    ap (λ text. option_and_then resource_behind (unescaped text)) kept
+    ∙ ap (λ text. option_and_then resource_behind (unescaped text)) (sym (append-nil xs))
+    ∙ ap (option_and_then resource_behind) (unescaped-url xs [] none (All-nil IsByte))
+    ∙ ap resource_behind (append-nil xs) ∙ names
 
 -- ---- what is written has no `%` but in paths, and neither `?` nor `#`
 
@@ -82,7 +82,7 @@ rest_read (Rvr rev path) in_range some =
     let small : rev < 2 ^ 64 = omega (arith, in_range.0) in
     read_path (stub ++ decimal rev) path (Rvr rev path) (both is_percent stub (decimal rev) refl (not_in_written is_percent digit_no_percent rev small))
     (keeps_end stub (decimal rev) (decimal_nonempty rev small) (not_in_written is_slash digit_no_slash rev small)) in_range.1.0 in_range.1.1
-    (ap named (append_assoc stub (decimal rev) (front_of path)) ∙ rvr_named rev path in_range.0 in_range.1.0)
+    (ap resource_behind (append_assoc stub (decimal rev) (front_of path)) ∙ rvr_named rev path in_range.0 in_range.1.0)
 rest_read (RevOnly rev) in_range some =
     let stub = codes "/!svn/rev/" in
     let small : rev < 2 ^ 64 = omega (arith, in_range) in
@@ -93,7 +93,7 @@ rest_read (Txr name path) in_range some =
     let stub = codes "/!svn/txr/" in
     read_path (stub ++ txn_text name) path (Txr name path) (both is_percent stub (txn_text name) refl (not_in_name is_percent digit_no_percent refl name in_range.0))
     (keeps_end stub (txn_text name) (name_some name) (name_slash name in_range.0)) in_range.1.0 in_range.1.1
-    (ap named (append_assoc stub (txn_text name) (front_of path)) ∙ txr_named name path in_range.0 some in_range.1.0)
+    (ap resource_behind (append_assoc stub (txn_text name) (front_of path)) ∙ txr_named name path in_range.0 some in_range.1.0)
 rest_read (Txn name) in_range some =
     let stub = codes "/!svn/txn/" in
     read_alone (stub ++ txn_text name) (Txn name) (both is_percent stub (txn_text name) refl (not_in_name is_percent digit_no_percent refl name in_range))

@@ -64,8 +64,8 @@ path_text [] = root_text
 path_text (part ∷ parts) = flat_map after_slash (part ∷ parts)
 
 -- the path that these components make, where they do
-unfoldable pub path_of : List (List ℕ) → Option (List ℕ)
-path_of parts = if list_all is_component parts && is_path (path_text parts) then Some (path_text parts) else None
+unfoldable pub path_from_parts : List (List ℕ) → Option (List ℕ)
+path_from_parts parts = if list_all is_component parts && is_path (path_text parts) then Some (path_text parts) else None
 
 -- a revision's number: 0 to 2,000,000,000 without leading zeros
 abbrev pub rev_named : List ℕ → Option ℕ
@@ -91,7 +91,7 @@ me_at (part ∷ parts) = None
 -- `/!svn/rvr/REV` and components
 abbrev pub rvr_at : List (List ℕ) → Option Resource
 rvr_at [] = None
-rvr_at (rev ∷ parts) = option_and_then (λ rev. option_map (Rvr rev) (path_of parts)) (rev_named rev)
+rvr_at (rev ∷ parts) = option_and_then (λ rev. option_map (Rvr rev) (path_from_parts parts)) (rev_named rev)
 
 -- `/!svn/rev/REV`
 abbrev pub rev_at : List (List ℕ) → Option Resource
@@ -102,7 +102,7 @@ rev_at (rev ∷ part ∷ parts) = None
 -- `/!svn/txr/NAME` and components
 abbrev pub txr_at : List (List ℕ) → Option Resource
 txr_at [] = None
-txr_at (name ∷ parts) = option_and_then (λ name. option_map (Txr name) (path_of parts)) (txn_named name)
+txr_at (name ∷ parts) = option_and_then (λ name. option_map (Txr name) (path_from_parts parts)) (txn_named name)
 
 -- `/!svn/txn/NAME`
 abbrev pub txn_at : List (List ℕ) → Option Resource
@@ -123,15 +123,15 @@ special_at (word ∷ parts) =
 -- what components name: after `!svn` as above, else a path of the youngest revision
 abbrev pub resource_at : List (List ℕ) → Option Resource
 resource_at [] = Some (Public root_text)
-resource_at (first ∷ parts) = if bytes_eq first (codes "!svn") then special_at parts else option_map Public (path_of (first ∷ parts))
+resource_at (first ∷ parts) = if bytes_eq first (codes "!svn") then special_at parts else option_map Public (path_from_parts (first ∷ parts))
 
--- what stands behind the root, with its escapes read, names
-unfoldable pub named : List ℕ → Option Resource
-named text = option_and_then resource_at (parts_of text)
+-- the resource that the text behind the root names, once its escapes are read
+unfoldable pub resource_behind : List ℕ → Option Resource
+resource_behind text = option_and_then resource_at (parts_of text)
 
--- the same, as it is written
+-- the resource that the text behind the root names, as it is written
 abbrev pub rest_named : List ℕ → Option Resource
-rest_named rest = option_and_then named (unescaped (without_slash rest))
+rest_named rest = option_and_then resource_behind (unescaped (without_slash rest))
 
 -- the resource that a target names in the repository with this root
 unfoldable pub target : List ℕ → List ℕ → Option Resource

@@ -9,7 +9,8 @@ use std::alloc::Global;
 /// want of memory.
 #[tactic(auto, unfolding(crate::specs::Escaped::unescaped))]
 pub fn unescaped(alloc: Global, text: &[u8]) -> Result<Option<Vec<u8>>, NoMemory>
-    ensures { IfOk result (λ bytes. MatchOption bytes (unescaped text.now ≡ None) (λ bytes. unescaped text.now ≡ Some bytes.items)) }
+    ensures { IfOk result (λ found. MatchOption found (unescaped text.now ≡ None)
+        (λ bytes. unescaped text.now ≡ Some bytes.items)) }
 {
     if !is_escaped(text) {
         return Ok(None);

@@ -1,7 +1,7 @@
 ghost use Rattle.std.specs.Prelude.{◌≡◌, ◌∷◌, IfOk};
 ghost use Rattle.std.specs.Option.{option_copied};
 ghost use Rattle.dsv_base.specs.Paths.{components};
-ghost use Rattle.dav_names.specs.Targets.{path_of};
+ghost use Rattle.dav_names.specs.Targets.{path_from_parts};
 ghost use Rattle.dav_names.specs.Reading.{parts_left};
 
 use dsv_base::{NoMemory, Path, PathFault, cut_at};
@@ -18,9 +18,9 @@ pub fn first_part(text: &[u8]) -> (&[u8], Option<&[u8]>)
 }
 
 /// The path that the components of `rest` make, where they do. Its one error is want of memory.
-#[tactic(auto, unfolding(crate::specs::Targets::path_of))]
-pub fn path_of(alloc: Global, rest: Option<&[u8]>) -> Result<Option<Path>, NoMemory>
-    ensures { IfOk result (λ path. path ≡ path_of (parts_left (option_copied rest.entry))) }
+#[tactic(auto, unfolding(crate::specs::Targets::path_from_parts))]
+pub fn path_from_parts(alloc: Global, rest: Option<&[u8]>) -> Result<Option<Path>, NoMemory>
+    ensures { IfOk result (λ path. path ≡ path_from_parts (parts_left (option_copied rest.entry))) }
 {
     match rest {
         None => Ok(Some(Path::root(alloc)?)),
@@ -29,9 +29,9 @@ pub fn path_of(alloc: Global, rest: Option<&[u8]>) -> Result<Option<Path>, NoMem
 }
 
 /// The path that the components of `text` make below `/`, where they do.
-#[tactic(auto, unfolding(crate::specs::Targets::path_of))]
+#[tactic(auto, unfolding(crate::specs::Targets::path_from_parts))]
 fn path_below(alloc: Global, text: &[u8]) -> Result<Option<Path>, NoMemory>
-    ensures { IfOk result (λ path. path ≡ path_of (components text.now)) }
+    ensures { IfOk result (λ path. path ≡ path_from_parts (components text.now)) }
 {
     if text.is_empty() {
         return Ok(None);

@@ -2,12 +2,12 @@ ghost use Rattle.std.specs.Prelude.{◌≡◌, IfOk};
 ghost use Rattle.std.specs.List.{list_any};
 ghost use Rattle.dsv_base.specs.Gives.{Gives};
 ghost use Rattle.dsv_base.specs.Paths.{components};
-ghost use Rattle.dav_names.specs.Targets.{is_mark, named, resource_at, target};
+ghost use Rattle.dav_names.specs.Targets.{is_mark, resource_behind, resource_at, target};
 ghost use Rattle.dav_names.specs.Reading.{target_no_memory, read_target};
 
 use crate::absolute::{after_root, target_path, without_slash};
 use crate::escaped::unescaped;
-use crate::parts::{first_part, path_of};
+use crate::parts::{first_part, path_from_parts};
 use crate::resource::Resource;
 use crate::special::special_at;
 use crate::target_fault::TargetFault;
@@ -41,7 +41,7 @@ fn resource_of(alloc: Global, root: &[u8], bytes: &[u8]) -> Result<Option<Resour
     let Some(text) = unescaped(alloc, without_slash(rest))? else {
         return Ok(None);
     };
-    named(alloc, text.as_slice())
+    resource_behind(alloc, text.as_slice())
 }
 
 /// Whether arguments or a fragment begin in it.
@@ -52,9 +52,9 @@ fn has_mark(target: &[u8]) -> bool
 }
 
 /// What the text behind the root names, where it names anything.
-#[tactic(auto, unfolding(crate::specs::Targets::named))]
-fn named(alloc: Global, text: &[u8]) -> Result<Option<Resource>, NoMemory>
-    ensures { IfOk result (λ resource. resource ≡ named text.now) }
+#[tactic(auto, unfolding(crate::specs::Targets::resource_behind))]
+fn resource_behind(alloc: Global, text: &[u8]) -> Result<Option<Resource>, NoMemory>
+    ensures { IfOk result (λ resource. resource ≡ resource_behind text.now) }
 {
     match text {
         [] => Ok(Some(Resource::Public(Path::root(alloc)?))),
@@ -71,7 +71,7 @@ fn named_below(alloc: Global, below: &[u8]) -> Result<Option<Resource>, NoMemory
     if first == b"!svn".as_slice() {
         return special_at(alloc, rest);
     }
-    match path_of(alloc, Some(below))? {
+    match path_from_parts(alloc, Some(below))? {
         None => Ok(None),
         Some(path) => Ok(Some(Resource::Public(path))),
     }

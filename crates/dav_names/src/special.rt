@@ -3,7 +3,7 @@ ghost use Rattle.std.specs.Option.{option_copied};
 ghost use Rattle.dav_names.specs.Targets.{special_at, me_at, rvr_at, rev_at, txr_at, txn_at};
 ghost use Rattle.dav_names.specs.Reading.{parts_left};
 
-use crate::parts::{first_part, path_of};
+use crate::parts::{first_part, path_from_parts};
 use crate::resource::Resource;
 use crate::txn_names::{rev_named, txn_named};
 use dsv_base::NoMemory;
@@ -55,7 +55,7 @@ fn rvr_at(alloc: Global, rest: Option<&[u8]>) -> Result<Option<Resource>, NoMemo
     let Some(rev) = rev_named(rev) else {
         return Ok(None);
     };
-    match path_of(alloc, rest)? {
+    match path_from_parts(alloc, rest)? {
         None => Ok(None),
         Some(path) => Ok(Some(Resource::Rvr(rev, path))),
     }
@@ -83,7 +83,7 @@ fn txr_at(alloc: Global, rest: Option<&[u8]>) -> Result<Option<Resource>, NoMemo
     let Some(name) = txn_named(name) else {
         return Ok(None);
     };
-    match path_of(alloc, rest)? {
+    match path_from_parts(alloc, rest)? {
         None => Ok(None),
         Some(path) => Ok(Some(Resource::Txr(name, path))),
     }

@@ -29,7 +29,8 @@ pub fn root_of(alloc: Global, name: &[u8]) -> Result<Bytes, NoMemory>
 #[tactic(auto, unfolding(crate::specs::Written::target_text))]
 pub fn write_target(alloc: Global, root: &[u8], resource: &Resource) -> Result<Bytes, NoMemory>
     ensures value { IfOk result (λ bytes. bytes ≡ target_text root.now resource.now) }
-    ensures read { IsTrue (is_root root.now) → IsTrue (is_numbered resource.now) → IfOk result (λ bytes. target root.now bytes ≡ Some resource.now) }
+    ensures read { IsTrue (is_root root.now) → IsTrue (is_numbered resource.now)
+        → IfOk result (λ bytes. target root.now bytes ≡ Some resource.now) }
 {
     let mut out = Vec::from_slice(alloc, root)?;
     put_resource(alloc, &mut out, resource)?;

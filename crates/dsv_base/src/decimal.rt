@@ -44,7 +44,8 @@ pub fn read_decimal(text: &[u8], most: u64) -> Option<u64>
 pub fn read_digits(text: &[u8], most: u64) -> Option<u64>
     requires { list_all is_digit text.now ≡ true }
     ensures bound { IfSome result (λ n. n ≤ most) }
-    ensures value { result ≡ (if nat_le (digits_after 0 text.now) most then Some (digits_after 0 text.now) else None) }
+    ensures value { result ≡ (if nat_le (digits_after 0 text.now) most
+        then Some (digits_after 0 text.now) else None) }
 {
     let mut number = 0u64;
     let mut rest = text;
@@ -62,7 +63,8 @@ pub fn read_digits(text: &[u8], most: u64) -> Option<u64>
 fn one_more(number: u64, digit: u8, most: u64) -> Option<u64>
     requires { IsTrue (is_digit digit) }
     ensures bound { IfSome result (λ n. n ≤ most) }
-    ensures value { result ≡ (if nat_le (number * 10 + (digit - 48)) most then Some (number * 10 + (digit - 48)) else None) }
+    ensures value { result ≡ (if nat_le (number * 10 + (digit - 48)) most
+        then Some (number * 10 + (digit - 48)) else None) }
 {
     number
         .checked_mul(10)?

@@ -14,7 +14,8 @@ fn place_of(text: &[u8], byte: u8) -> Option<usize>
 /// What stands before the first such byte, and what stands after it; `None` where it stands
 /// nowhere.
 pub fn cut_at(text: &[u8], byte: u8) -> Option<(&[u8], &[u8])>
-    ensures cut { MatchOption result (cut_at byte text.now ≡ None) (λ x. cut_at byte text.now ≡ Some (x.0.now, x.1.now)) }
+    ensures cut { MatchOption result (cut_at byte text.now ≡ None)
+        (λ x. cut_at byte text.now ≡ Some (x.0.now, x.1.now)) }
     ensures shorter { IfSome result (λ x. length x.0.now + length x.1.now + 1 ≡ length text.now) }
 {
     match place_of(text, byte) {
@@ -26,8 +27,10 @@ pub fn cut_at(text: &[u8], byte: u8) -> Option<(&[u8], &[u8])>
 /// The first line without its line feed, and what stands after that; `None` where there is no
 /// line feed, so that the whole text is one line that isn't ended.
 pub fn first_line(text: &[u8]) -> Option<(&[u8], &[u8])>
-    ensures first { MatchOption result (cut_line text.now ≡ None) (λ x. cut_line text.now ≡ Some (x.0.now, x.1.now)) }
-    ensures cut { MatchOption result (lines_of text.now ≡ text.now ∷ []) (λ x. lines_of text.now ≡ x.0.now ∷ lines_of x.1.now) }
+    ensures first { MatchOption result (cut_line text.now ≡ None)
+        (λ x. cut_line text.now ≡ Some (x.0.now, x.1.now)) }
+    ensures cut { MatchOption result (lines_of text.now ≡ text.now ∷ [])
+        (λ x. lines_of text.now ≡ x.0.now ∷ lines_of x.1.now) }
     ensures shorter { IfSome result (λ x. length x.0.now + length x.1.now + 1 ≡ length text.now) }
 {
     match cut_at(text, b'\n') {

@@ -74,7 +74,8 @@ impl Path {
     /// The directory that it stands in; `None` for `/`. Its one error is want of memory.
     pub fn parent(&self) -> Result<Option<Path>, NoMemory>
         ensures value { IfOk result (λ parent. parent ≡ parent_text self.now) }
-        ensures joined { IfOk result (λ parent. IfSome parent (λ directory. join_text directory (name_of self.now) ≡ self.now)) }
+        ensures joined { IfOk result (λ parent. IfSome parent (λ directory.
+            join_text directory (name_of self.now) ≡ self.now)) }
     {
         match parent_text(self.text.as_slice()) {
             None => Ok(None),
@@ -96,7 +97,8 @@ impl Path {
     /// The path with `name` behind it, after a `/`, of which `/` has its own. [`PathFault::BadPath`]
     /// comes exactly where that is no path.
     pub fn join(&self, name: &[u8]) -> Result<Path, PathFault>
-        ensures value { IfOk result (λ p. (p ≡ join_text self.now name.now) × IsTrue (is_path (join_text self.now name.now))) }
+        ensures value { IfOk result (λ p. (p ≡ join_text self.now name.now)
+            × IsTrue (is_path (join_text self.now name.now))) }
         ensures bad { IsErrOf result PathFault.BadPath → is_path (join_text self.now name.now) ≡ false }
         ensures only { is_path (join_text self.now name.now) ≡ false → IsErr result }
         ensures parent { IsTrue (is_component name.now) → IfOk result (λ p. parent_text p ≡ Some self.now) }

@@ -5,16 +5,12 @@ use std::test::Fail;
 fn texts(rt: HostRuntime) -> Result<(), Fail> {
     let alloc = rt.alloc();
     let bytes = Bytes::of(alloc, b"a b")?.copy()?;
-    assert_eq!(rt; bytes.get(), b"a b".as_slice());
-    assert_eq!(rt; xml_text(alloc, b"a<\r")?.get(), b"a&lt;&#13;".as_slice());
-    assert_eq!(rt; decimal_text(alloc, 2024)?.get(), b"2024".as_slice());
     let mut text = bytes.into_vec();
     push_decimal(&mut text, 10)?;
     push_xml_text(&mut text, b"&")?;
     assert_eq!(rt; text.as_slice(), b"a b10&amp;".as_slice());
-    assert_eq!(rt; read_decimal(b"2024", 9999), Some(2024));
-    assert!(rt; xml_plain("é".as_bytes()));
-    assert!(rt; is_user_name(b"alice") && is_repository_name(b"demo"));
+    assert_eq!(rt; xml_text(alloc, b"a<\r")?.get(), b"a&lt;&#13;".as_slice());
+    assert_eq!(rt; decimal_text(alloc, 2024)?.get(), b"2024".as_slice());
     Ok(())
 }
 
@@ -22,7 +18,6 @@ fn texts(rt: HostRuntime) -> Result<(), Fail> {
 fn paths(rt: HostRuntime) -> Result<(), Fail> {
     let alloc = rt.alloc();
     let path = Path::parse(alloc, b"/a/b c")?.copy()?;
-    assert_eq!(rt; path.name(), b"b c".as_slice());
     assert_eq!(rt; url_text(alloc, &path)?.get(), b"/a/b%20c".as_slice());
     let parent = path.parent()?.ok_or("no parent")?;
     assert_eq!(rt; parent.join(b"d")?.text(), b"/a/d".as_slice());

@@ -15,11 +15,11 @@ Reads (Some old) (Some new) moments = new ≡ old ++ moments
 abbrev pub moment_at : List ℕ → ℕ → ℕ
 moment_at moments number = slice_index moments (min number (length moments - 1))
 
--- .. and as its first readings, so many
+-- what it answers as its first readings, so many
 unfoldable pub first_readings : List ℕ → ℕ → List ℕ
 first_readings moments zero = []
 first_readings moments (suc count) = first_readings moments count ++ moment_at moments count ∷ []
 
--- .. which are known as long as they can be counted
+-- those readings, which are known as long as they can be counted
 abbrev pub told_readings : List ℕ → ℕ → Option (List ℕ)
 told_readings moments count = if nat_eq count last_count then None else Some (first_readings moments count)

@@ -12,9 +12,9 @@ file_named [] name = None
 file_named (file ∷ files) name = if bytes_eq file.0 name then Some file.1 else file_named files name
 
 -- a text, unless it is too long to be read
-abbrev pub within_limit : List ℕ → Option (List ℕ)
-within_limit text = if nat_le (length text) most_file_bytes then Some text else None
+abbrev pub readable_text : List ℕ → Option (List ℕ)
+readable_text text = if nat_le (length text) most_file_bytes then Some text else None
 
 -- what a read of a name can give: none where nothing stands there, and where it is too long
 unfoldable pub text_named : List (List ℕ × List ℕ) → List ℕ → Option (List ℕ)
-text_named files name = option_and_then within_limit (file_named files name)
+text_named files name = option_and_then readable_text (file_named files name)

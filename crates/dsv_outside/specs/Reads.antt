@@ -20,6 +20,7 @@ FileGives contents name (Bytes bytes) = Holds contents name bytes × (length byt
 FileGives contents name Failed = ⊤
 FileGives contents name NoMemory = ⊤
 
+-- a read of a file that failed
 abbrev pub is_failed_file : FileGot → Bool
 is_failed_file (Bytes bytes) = false
 is_failed_file Failed = true

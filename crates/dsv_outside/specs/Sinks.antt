@@ -10,6 +10,7 @@ PutGives old new Done bytes = Appends old new bytes
 PutGives old new Failed bytes = (n : ℕ) × (n ≤ length bytes) × Appends old new (take n bytes)
 PutGives old new NoMemory bytes = Keeps old new
 
+-- a put that failed
 abbrev pub is_failed_put : Put → Bool
 is_failed_put Done = false
 is_failed_put Failed = true

@@ -17,6 +17,7 @@ TellsOver old new (Bytes n) = (old ≡ false) × (new ≡ false)
 TellsOver old new End = new ≡ true
 TellsOver old new Failed = new ≡ old
 
+-- a read that failed
 abbrev pub is_failed_got : Got → Bool
 is_failed_got (Bytes n) = false
 is_failed_got End = false

@@ -51,7 +51,8 @@ CutsDontMatter = (users : List User) (steps : List Step) (last : FrontState) (en
     → Run users steps new_front last → EndsAt users last.phase last end
     → Messages users (fed_bytes steps) (given_requests steps) end
 
--- the same of a front from which requests may still come: its rest stands before the bytes that it is fed
+-- however later bytes are cut, the requests that a front gives are those of its rest and all later bytes
+-- together, as long as requests may still come
 abbrev pub LaterCutsDontMatter : Type 0
 LaterCutsDontMatter = (users : List User) (steps : List Step) (first last : FrontState) (end : End) → first.phase ≡ Open
     → Run users steps first last → EndsAt users last.phase last end

@@ -2,4 +2,6 @@ pub mod Search
 pub mod Below
 pub mod Marks
 pub mod Forming
+pub mod NodesSound
+pub mod Subtrees
 pub mod Rows

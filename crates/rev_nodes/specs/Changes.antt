@@ -16,7 +16,7 @@ use Rattle.rev_nodes.specs.declared.unfit.Unfit.{Unfit}
 use Rattle.rev_nodes.specs.declared.unfit.Unfit.TheVariants.{NoNode, IsRoot, Exists, NoParent, TooLong}
 use Rattle.rev_nodes.specs.Trees.{TreeNode, Tree, at, is_dir, is_file, new_dir, new_file, tree_at}
 
--- whether a directory stands at the parent; the root has none
+-- a directory stands at the path's parent; the root has none
 abbrev pub has_parent : List ℕ → Tree → Bool
 has_parent path tree = option_map_or (λ parent. is_dir (at parent tree)) (parent_text path) false
 
@@ -67,7 +67,7 @@ unfit (Mkdir path) trees tree = unfit_new path tree
 unfit (Delete path) trees tree = if is_some (at path tree) then (if bytes_eq path root_text then Some IsRoot else None) else Some NoNode
 unfit (Copy source rev path) trees tree = if is_some (at source (tree_at trees rev)) then unfit_copy path (copied source rev path 0 (tree_at trees rev)) tree else Some NoNode
 
--- a change at a path marks its node and every node above it
+-- the place after a change at the path, which marks its node and every node above it
 abbrev pub mark : ℕ → List ℕ → List ℕ × TreeNode → List ℕ × TreeNode
 mark r path place = (place.0, if is_under path place.0 then record place.1 { node = record place.1.node { created = r } } else place.1)
 
@@ -84,7 +84,7 @@ with_text r text (Some found) = record found { node = record found.node { text =
 abbrev pub placed : List ℕ → TreeNode → Tree → Tree
 placed path node tree = put (slice_cmp nat_cmp) path node tree
 
--- all of the places, in order
+-- the tree with all of the places, in their order
 abbrev pub all_placed : Tree → Tree → Tree
 all_placed [] tree = tree
 all_placed (place ∷ places) tree = all_placed places (placed place.0 place.1 tree)
@@ -95,7 +95,7 @@ prop_by Less prop other others with_others = prop ∷ other ∷ others
 prop_by Equal prop other others with_others = prop ∷ others
 prop_by Greater prop other others with_others = other ∷ with_others
 
--- the properties, in byte order of the name, with this one
+-- the properties, in byte order of the name, with this one set
 abbrev pub with_prop : Prop → List Prop → List Prop
 with_prop prop [] = prop ∷ []
 with_prop prop (other ∷ others) = prop_by (slice_cmp nat_cmp prop.name other.name) prop other others (with_prop prop others)

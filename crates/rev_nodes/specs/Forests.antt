@@ -22,14 +22,14 @@ pub record ForestRevision : Type 0 where
   pub changed : List Changed
   pub places : List (List ℕ × Numbered)
 
--- `room` revisions can be pushed before memory is taken
+-- the trees of a repository as they are read; `room` revisions can be pushed before memory is taken
 pub record Forest : Type 0 where
   pub name : List ℕ
   pub uuid : List ℕ
   pub revisions : List ForestRevision
   pub room : ℕ
 
--- without the numbers
+-- the tree of a revision's places, without the numbers
 abbrev pub tree_of : List (List ℕ × Numbered) → Tree
 tree_of places = map (λ p. (p.0, p.1.here)) places
 
@@ -41,7 +41,7 @@ without_numbers revision = record { commit = revision.commit; changed = revision
 abbrev pub repository_of : Forest → Repository
 repository_of forest = record { name = forest.name; uuid = forest.uuid; revisions = map without_numbers forest.revisions }
 
--- past the youngest stands nothing
+-- the commit past the youngest: that of nobody, without changes
 abbrev pub no_commit : Commit
 no_commit = record { author = []; moment = 0; props = []; changes = [] }
 

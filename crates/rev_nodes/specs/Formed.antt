@@ -6,18 +6,19 @@ use Rattle.rev_nodes.specs.Trees.{TreeNode, Tree, at, is_dir}
 use Rattle.rev_nodes.specs.PropertyNames.{names_rise}
 use Rattle.rev_nodes.specs.Forests.{Forest, tree_of, places_at}
 
--- in byte order of the name, each name once
+-- the properties of what stands there are in byte order of the name, each name once
 abbrev pub has_ordered_props : Option TreeNode → Bool
 has_ordered_props None = true
 has_ordered_props (Some found) = names_rise found.node.props
 
--- so nothing stands in a file
+-- the root is a directory, whatever stands has a directory as its parent (so nothing stands in a file), all
+-- paths are paths, and the properties of each node stand in order
 pub record IsFormed (tree : Tree) : Type 0 where
   pub root : IsTrue (is_dir (at root_text tree))
   pub paths : (path : List ℕ) → IsTrue (is_some (at path tree)) → IsTrue (is_path path)
   pub parents : (path : List ℕ) (parent : List ℕ) → IsTrue (is_some (at path tree)) → parent_text path ≡ Some parent → IsTrue (is_dir (at parent tree))
   pub props : (path : List ℕ) → IsTrue (has_ordered_props (at path tree))
 
--- the tree of each revision is
+-- the tree of each revision is formed
 abbrev pub AreFormed : Forest → Type 0
 AreFormed forest = (rev : ℕ) → rev < length forest.revisions → IsFormed (tree_of (places_at forest rev))

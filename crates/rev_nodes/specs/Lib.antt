@@ -7,3 +7,6 @@ pub mod Entries
 pub mod PropertyNames
 pub mod Formed
 pub mod Fitting
+pub mod Commits
+pub mod SoundNodes
+pub mod Subtrees

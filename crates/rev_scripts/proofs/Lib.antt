@@ -1,9 +1,13 @@
 pub mod Extending
 pub mod ItemTurns
+pub mod NumbersAloud
+pub mod SoundTold
+pub mod Spelled
+pub mod TextsBack
+pub mod ItemsAloud
 pub mod ItemsBack
 pub mod MoreBehind
 pub mod ReadRevisions
 pub mod RevisionBack
+pub mod ScriptAloud
 pub mod ScriptRows
-pub mod Spelled
-pub mod TextsBack

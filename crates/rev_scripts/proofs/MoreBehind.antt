@@ -1,5 +1,5 @@
 -- What is read of a text is read of it with more behind it, and that is left too.
-use Rattle.std.proofs.Common.{◌≡◌, ℕ, ◌≤◌, ◌+◌, ◌-◌, Bool, true, false, ◌&&◌, List, [], ◌∷◌, ◌++◌, Option, None, Some, Result, Ok, Err, length, take, drop, nat_eq, nat_le, refl, sym, ap, ◌∙◌, subst, arith, length-append}
+use Rattle.std.proofs.Common.{◌≡◌, ℕ, ◌≤◌, ◌<◌, ◌+◌, ◌-◌, Bool, true, false, ◌&&◌, List, [], ◌∷◌, ◌++◌, Option, None, Some, Result, Ok, Err, length, take, drop, nat_eq, nat_le, nat_lt, refl, sym, ap, ◌∙◌, subst, arith, length-append}
 use Rattle.std.specs.Prelude.{codes, ◌==◌, if◌then◌else◌, ⊤}
 use Rattle.std.specs.List.{starts_with, count_by}
 use Rattle.std.specs.Option.{option_map}
@@ -10,14 +10,16 @@ use Rattle.dsv_base.specs.Gives.{◌>>=◌}
 use Rattle.dsv_base.specs.Lines.{cut_at, is_line_feed}
 use Rattle.dsv_base.specs.Paths.{is_path}
 use Rattle.dsv_base.specs.Names.{is_repository_name}
+use Rattle.dsv_base.specs.Numbers.{read_decimal, is_decimal, digits_after}
 use Rattle.rev_nodes.specs.declared.change.Change.TheVariants.{Put, Mkdir, Delete}
 use Rattle.rev_scripts.specs.declared.item.Item.TheVariants as item
 use Rattle.rev_scripts.specs.declared.item_fault.ItemFault.{ItemFault}
 use Rattle.rev_nodes.specs.PropertyNames.{is_property_name, is_revision_property}
-use Rattle.rev_scripts.specs.Steps.{or_bad, ok_where, line_from, word_from, after_front, bytes_from, number_from, at_line, line_after, longest}
+use Rattle.rev_scripts.specs.Steps.{or_bad, ok_where, line_from, word_from, after_front, bytes_from, number_from, at_line, line_after, most_revision}
 use Rattle.rev_scripts.specs.Items.{Told, two_lengths, three_lengths, copy_numbers, one_part, two_parts, three_parts, prop_from, mkdir_from, delete_from, put_from, setprop_from, delprop_from, copy_from, item_of, item_after, item_from, may_follow}
 use Rattle.rev_scripts.specs.Uuids.{is_uuid}
-use Rattle.rev_scripts.specs.Scripts.{told_line, heading_from, revision_line, revision_head, is_author, next_item}
+use Rattle.rev_nodes.specs.Commits.{is_author}
+use Rattle.rev_scripts.specs.Scripts.{told_line, heading_from, revision_line, revision_head, next_item}
 
 -- where the one gives something, the other gives the same with more
 abbrev pub Behind : {A F : Type 0} → (A → A) → Result A F → Result A F → Type 0
@@ -106,49 +108,85 @@ three_parts_more k m n text more =
     behind_then (more_1 more) (more_3 more) (bytes_from k text) (bytes_from k (text ++ more)) _ _ (bytes_more k text more)
     (λ one. behind_then (more_2 more) (more_3 more) (two_parts m n one.1) (two_parts m n (one.1 ++ more)) _ _ (two_parts_more m n one.1 more) (λ rest. refl))
 
+-- ---- numbers, of which none is above what stands behind the line
+
+number_more : (m n : ℕ) (text : List ℕ) → m ≤ n → Behind (λ a. a) (number_from m text) (number_from n text)
+unfolding read_decimal
+number_more m n text h = by (is_decimal text) (nat_le (digits_after 0 text) m) refl (nat_le (digits_after 0 text) n) refl
+  where
+    by : (is low : Bool) → nat_le (digits_after 0 text) m ≡ low → (high : Bool) → nat_le (digits_after 0 text) n ≡ high → Behind (λ a. a) (or_bad (if is && low then Some (digits_after 0 text) else None)) (or_bad (if is && high then Some (digits_after 0 text) else None))
+    by true true e true f = refl
+    by true true e false f = absurd (let a : digits_after 0 text ≤ m = grind (arith, nat_tests) in let b : n < digits_after 0 text = grind (arith, nat_tests) in omega (arith, a, b, h))
+    by true false e high f = tt
+    by false low e high f = tt
+
+two_lengths_more : (m n : ℕ) (numbers : List ℕ) → m ≤ n → Behind (λ a. a) (two_lengths m numbers) (two_lengths n numbers)
+two_lengths_more m n numbers h =
+    behind_then (λ a. a) (λ a. a) (word_from numbers) (word_from numbers) _ _ (behind_same (word_from numbers))
+    (λ word. behind_then (λ a. a) (λ a. a) (number_from m word.0) (number_from n word.0) _ _ (number_more m n word.0 h)
+    (λ one. behind_then (λ a. a) (λ a. a) (number_from m word.1) (number_from n word.1) _ _ (number_more m n word.1 h) (λ two. refl)))
+
+three_lengths_more : (m n : ℕ) (numbers : List ℕ) → m ≤ n → Behind (λ a. a) (three_lengths m numbers) (three_lengths n numbers)
+three_lengths_more m n numbers h =
+    behind_then (λ a. a) (λ a. a) (word_from numbers) (word_from numbers) _ _ (behind_same (word_from numbers))
+    (λ word. behind_then (λ a. a) (λ a. a) (number_from m word.0) (number_from n word.0) _ _ (number_more m n word.0 h)
+    (λ one. behind_then (λ a. a) (λ a. a) (two_lengths m word.1) (two_lengths n word.1) _ _ (two_lengths_more m n word.1 h) (λ others. refl)))
+
+copy_numbers_more : (m n number : ℕ) (numbers : List ℕ) → m ≤ n → Behind (λ a. a) (copy_numbers m number numbers) (copy_numbers n number numbers)
+copy_numbers_more m n number numbers h =
+    behind_then (λ a. a) (λ a. a) (word_from numbers) (word_from numbers) _ _ (behind_same (word_from numbers))
+    (λ first. behind_then (λ a. a) (λ a. a) (number_from m first.0) (number_from n first.0) _ _ (number_more m n first.0 h)
+    (λ source. behind_then (λ a. a) (λ a. a) (word_from first.1) (word_from first.1) _ _ (behind_same (word_from first.1))
+    (λ second. behind_then (λ a. a) (λ a. a) (number_from most_revision second.0) (number_from most_revision second.0) _ _ (behind_same (number_from most_revision second.0))
+    (λ rev. behind_then (λ a. a) (λ a. a) (number_from m second.1) (number_from n second.1) _ _ (number_more m n second.1 h)
+    (λ path. behind_same (ok_where (nat_lt rev number) (source, rev, path)))))))
+
+longer : (text more : List ℕ) → length text ≤ length (text ++ more)
+longer text more = let e = length-append text more in omega (arith, e)
+
 -- ---- items
 
 prop_more : (numbers text more : List ℕ) → Behind (more_1 more) (prop_from numbers text) (prop_from numbers (text ++ more))
 prop_more numbers text more =
-    behind_then (λ a. a) (more_1 more) (two_lengths numbers) (two_lengths numbers) _ _ (behind_same (two_lengths numbers))
+    behind_then (λ a. a) (more_1 more) (two_lengths (length text) numbers) (two_lengths (length (text ++ more)) numbers) _ _ (two_lengths_more (length text) (length (text ++ more)) numbers (longer text more))
     (λ n. behind_then (more_2 more) (more_1 more) (two_parts n.0 n.1 text) (two_parts n.0 n.1 (text ++ more)) _ _ (two_parts_more n.0 n.1 text more)
     (λ p. behind_where (more_1 more) (is_revision_property p.0) (item.Prop (record { name = p.0; value = p.1 }), p.2)))
 
 mkdir_more : (numbers text more : List ℕ) → Behind (more_1 more) (mkdir_from numbers text) (mkdir_from numbers (text ++ more))
 mkdir_more numbers text more =
-    behind_then (λ a. a) (more_1 more) (number_from longest numbers) (number_from longest numbers) _ _ (behind_same (number_from longest numbers))
+    behind_then (λ a. a) (more_1 more) (number_from (length text) numbers) (number_from (length (text ++ more)) numbers) _ _ (number_more (length text) (length (text ++ more)) numbers (longer text more))
     (λ n. behind_then (more_1 more) (more_1 more) (one_part n text) (one_part n (text ++ more)) _ _ (one_part_more n text more)
     (λ p. behind_where (more_1 more) (is_path p.0) (item.Change (Mkdir p.0), p.1)))
 
 delete_more : (numbers text more : List ℕ) → Behind (more_1 more) (delete_from numbers text) (delete_from numbers (text ++ more))
 delete_more numbers text more =
-    behind_then (λ a. a) (more_1 more) (number_from longest numbers) (number_from longest numbers) _ _ (behind_same (number_from longest numbers))
+    behind_then (λ a. a) (more_1 more) (number_from (length text) numbers) (number_from (length (text ++ more)) numbers) _ _ (number_more (length text) (length (text ++ more)) numbers (longer text more))
     (λ n. behind_then (more_1 more) (more_1 more) (one_part n text) (one_part n (text ++ more)) _ _ (one_part_more n text more)
     (λ p. behind_where (more_1 more) (is_path p.0) (item.Change (Delete p.0), p.1)))
 
 put_more : (numbers text more : List ℕ) → Behind (more_1 more) (put_from numbers text) (put_from numbers (text ++ more))
 put_more numbers text more =
-    behind_then (λ a. a) (more_1 more) (two_lengths numbers) (two_lengths numbers) _ _ (behind_same (two_lengths numbers))
+    behind_then (λ a. a) (more_1 more) (two_lengths (length text) numbers) (two_lengths (length (text ++ more)) numbers) _ _ (two_lengths_more (length text) (length (text ++ more)) numbers (longer text more))
     (λ n. behind_then (more_2 more) (more_1 more) (two_parts n.0 n.1 text) (two_parts n.0 n.1 (text ++ more)) _ _ (two_parts_more n.0 n.1 text more)
     (λ p. behind_where (more_1 more) (is_path p.0) (item.Change (Put p.0 p.1), p.2)))
 
 setprop_more : (numbers text more : List ℕ) → Behind (more_1 more) (setprop_from numbers text) (setprop_from numbers (text ++ more))
 setprop_more numbers text more =
-    behind_then (λ a. a) (more_1 more) (three_lengths numbers) (three_lengths numbers) _ _ (behind_same (three_lengths numbers))
+    behind_then (λ a. a) (more_1 more) (three_lengths (length text) numbers) (three_lengths (length (text ++ more)) numbers) _ _ (three_lengths_more (length text) (length (text ++ more)) numbers (longer text more))
     (λ n. behind_then (more_3 more) (more_1 more) (three_parts n.0 n.1 n.2 text) (three_parts n.0 n.1 n.2 (text ++ more)) _ _ (three_parts_more n.0 n.1 n.2 text more)
     (λ p. behind_then (λ a. a) (more_1 more) (ok_where (is_path p.0) p.0) (ok_where (is_path p.0) p.0) _ _ (behind_same (ok_where (is_path p.0) p.0))
     (λ path. behind_then (λ a. a) (more_1 more) (ok_where (is_property_name p.1) p.1) (ok_where (is_property_name p.1) p.1) _ _ (behind_same (ok_where (is_property_name p.1) p.1)) (λ name. refl))))
 
 delprop_more : (numbers text more : List ℕ) → Behind (more_1 more) (delprop_from numbers text) (delprop_from numbers (text ++ more))
 delprop_more numbers text more =
-    behind_then (λ a. a) (more_1 more) (two_lengths numbers) (two_lengths numbers) _ _ (behind_same (two_lengths numbers))
+    behind_then (λ a. a) (more_1 more) (two_lengths (length text) numbers) (two_lengths (length (text ++ more)) numbers) _ _ (two_lengths_more (length text) (length (text ++ more)) numbers (longer text more))
     (λ n. behind_then (more_2 more) (more_1 more) (two_parts n.0 n.1 text) (two_parts n.0 n.1 (text ++ more)) _ _ (two_parts_more n.0 n.1 text more)
     (λ p. behind_then (λ a. a) (more_1 more) (ok_where (is_path p.0) p.0) (ok_where (is_path p.0) p.0) _ _ (behind_same (ok_where (is_path p.0) p.0))
     (λ path. behind_then (λ a. a) (more_1 more) (ok_where (is_property_name p.1) p.1) (ok_where (is_property_name p.1) p.1) _ _ (behind_same (ok_where (is_property_name p.1) p.1)) (λ name. refl))))
 
 copy_more : (number : ℕ) (numbers text more : List ℕ) → Behind (more_1 more) (copy_from number numbers text) (copy_from number numbers (text ++ more))
 copy_more number numbers text more =
-    behind_then (λ a. a) (more_1 more) (copy_numbers number numbers) (copy_numbers number numbers) _ _ (behind_same (copy_numbers number numbers))
+    behind_then (λ a. a) (more_1 more) (copy_numbers (length text) number numbers) (copy_numbers (length (text ++ more)) number numbers) _ _ (copy_numbers_more (length text) (length (text ++ more)) number numbers (longer text more))
     (λ n. behind_then (more_2 more) (more_1 more) (two_parts n.0 n.2 text) (two_parts n.0 n.2 (text ++ more)) _ _ (two_parts_more n.0 n.2 text more)
     (λ p. behind_then (λ a. a) (more_1 more) (ok_where (is_path p.0) p.0) (ok_where (is_path p.0) p.0) _ _ (behind_same (ok_where (is_path p.0) p.0))
     (λ source. behind_then (λ a. a) (more_1 more) (ok_where (is_path p.1) p.1) (ok_where (is_path p.1) p.1) _ _ (behind_same (ok_where (is_path p.1) p.1)) (λ path. refl))))
@@ -191,11 +229,22 @@ next_more number told line text more =
 
 -- ---- a revision
 
+revision_line_more : (m n number : ℕ) (line : List ℕ) → m ≤ n → Behind (λ a. a) (revision_line m number line) (revision_line n number line)
+unfolding revision_line
+revision_line_more m n number line h =
+    behind_then (λ a. a) (λ a. a) (after_front (codes "revision ") line) (after_front (codes "revision ") line) _ _ (behind_same (after_front (codes "revision ") line))
+    (λ numbers. behind_then (λ a. a) (λ a. a) (word_from numbers) (word_from numbers) _ _ (behind_same (word_from numbers))
+    (λ first. behind_then (λ a. a) (λ a. a) (number_from most_revision first.0) (number_from most_revision first.0) _ _ (behind_same (number_from most_revision first.0))
+    (λ told. behind_then (λ a. a) (λ a. a) (word_from first.1) (word_from first.1) _ _ (behind_same (word_from first.1))
+    (λ second. behind_then (λ a. a) (λ a. a) (number_from 253402300799999999 second.0) (number_from 253402300799999999 second.0) _ _ (behind_same (number_from 253402300799999999 second.0))
+    (λ moment. behind_then (λ a. a) (λ a. a) (number_from m second.1) (number_from n second.1) _ _ (number_more m n second.1 h)
+    (λ author. behind_same (ok_where (told == number) (moment, author))))))))
+
 pub head_more : (number : ℕ) (text more : List ℕ) → Behind (more_2 more) (revision_head number text) (revision_head number (text ++ more))
 unfolding revision_head
 head_more number text more =
     behind_then (more_1 more) (more_2 more) (line_from text) (line_from (text ++ more)) _ _ (line_more text more)
-    (λ line. behind_then (λ a. a) (more_2 more) (revision_line number line.0) (revision_line number line.0) _ _ (behind_same (revision_line number line.0))
+    (λ line. behind_then (λ a. a) (more_2 more) (revision_line (length line.1) number line.0) (revision_line (length (line.1 ++ more)) number line.0) _ _ (revision_line_more (length line.1) (length (line.1 ++ more)) number line.0 (longer line.1 more))
     (λ told. behind_then (more_1 more) (more_2 more) (one_part told.1 line.1) (one_part told.1 (line.1 ++ more)) _ _ (one_part_more told.1 line.1 more)
     (λ author. behind_where (more_2 more) (is_author author.0) (told.0, author.0, author.1))))
 

@@ -1,5 +1,5 @@
 -- A revision that is written and read back.
-use Rattle.std.proofs.Common.{◌≡◌, ℕ, suc, ◌<◌, ◌≤◌, ◌+◌, T, Bool, true, false, ◌||◌, List, [], ◌∷◌, ◌++◌, Result, Ok, length, nat_eq, refl, ap, ◌∙◌, subst, arith, append_assoc, length-append}
+use Rattle.std.proofs.Common.{◌≡◌, ℕ, suc, ◌<◌, ◌≤◌, ◌^◌, ◌+◌, T, Bool, true, false, ◌||◌, List, [], ◌∷◌, ◌++◌, Result, Ok, length, nat_eq, refl, ap, ◌∙◌, subst, arith, append_assoc, length-append}
 use Rattle.std.specs.Prelude.{codes, ◌==◌}
 use Rattle.std.specs.List.{flat_map}
 use Rattle.std.specs.Fmt.{decimal}
@@ -12,12 +12,13 @@ use Rattle.rev_nodes.specs.declared.change.Change.{Change}
 use Rattle.rev_nodes.specs.declared.change.Change.TheVariants.{Put, SetProp, DelProp, Mkdir, Delete, Copy}
 use Rattle.rev_nodes.specs.declared.commit.Commit.{Commit}
 use Rattle.rev_scripts.specs.declared.script_fault.ScriptFault.{ScriptFault}
-use Rattle.rev_scripts.specs.Steps.{ok_where, at_line, line_after, longest, most_revision}
+use Rattle.rev_scripts.specs.Steps.{ok_where, at_line, line_after, most_revision}
 use Rattle.rev_scripts.specs.Items.{nothing_told}
-use Rattle.rev_scripts.specs.Scripts.{Items, Read, items_from, revision_line, revision_head, revision_from, is_author, read_of}
+use Rattle.rev_scripts.specs.Scripts.{Items, Read, items_from, revision_line, revision_head, revision_from, read_of}
+use Rattle.rev_nodes.specs.Commits.{is_author}
 use Rattle.rev_scripts.specs.Written.{three_numbers, head_text, revision_text, prop_text, change_text, IsTellable, ReadsBack}
 use Rattle.rev_scripts.proofs.Spelled.{and_parts, line_back, number_word, number_back, one_part_back}
-use Rattle.rev_scripts.proofs.TextsBack.{three_line, three_lacks, fits}
+use Rattle.rev_scripts.proofs.TextsBack.{three_line, three_lacks, fits, first_fits}
 use Rattle.rev_scripts.proofs.ItemsBack.{TellsAll, props_back, may_start}
 
 -- ---- the head
@@ -25,10 +26,10 @@ use Rattle.rev_scripts.proofs.ItemsBack.{TellsAll, props_back, may_start}
 same_number : (n : ℕ) → (n == n) ≡ true
 same_number n = grind (arith, nat_tests)
 
-line_read : (number moment author : ℕ) → number ≤ most_revision → moment ≤ 253402300799999999 → author ≤ longest → revision_line number (three_line (codes "revision") number moment author) ≡ Ok (moment, author)
+line_read : (top number moment author : ℕ) → number ≤ most_revision → moment ≤ 253402300799999999 → author ≤ top → author < 2 ^ 64 → revision_line top number (three_line (codes "revision") number moment author) ≡ Ok (moment, author)
 unfolding revision_line
-line_read number moment author small early short =
-    rw (number_word number (decimal moment ++ 32 ∷ decimal author) (omega arith), number_back most_revision number small (omega arith), number_word moment (decimal author) (omega arith), number_back 253402300799999999 moment early (omega arith), number_back longest author short (omega arith)) (ap (λ (b : Bool). ok_where b (moment, author)) (same_number number))
+line_read top number moment author small early short fits =
+    rw (number_word number (decimal moment ++ 32 ∷ decimal author) (omega arith), number_back most_revision number small (omega arith), number_word moment (decimal author) (omega arith), number_back 253402300799999999 moment early (omega arith), number_back top author short fits) (ap (λ (b : Bool). ok_where b (moment, author)) (same_number number))
 
 or_else : (a b : Bool) → (a || b) ≡ true → a ≡ false → b ≡ true
 or_else true b h e = absurd (subst T e tt)
@@ -51,7 +52,7 @@ head_read number commit more small early author =
     let short : length commit.author ≤ 255 = author_fits commit.author author in
     rw (
       line_back (three_line (codes "revision") number commit.moment (length commit.author)) (commit.author ++ 10 ∷ more) (three_lacks (codes "revision") number commit.moment (length commit.author) (omega arith) (omega arith) (omega arith) refl),
-      line_read number commit.moment (length commit.author) small early (omega arith),
+      line_read (length (commit.author ++ 10 ∷ more)) number commit.moment (length commit.author) small early (first_fits commit.author (10 ∷ more)) (omega arith),
       one_part_back commit.author more,
     )
     (ap (λ (b : Bool). ok_where b (commit.moment, commit.author, more)) author)

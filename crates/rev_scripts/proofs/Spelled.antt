@@ -12,7 +12,7 @@ use Rattle.dsv_base.specs.Numbers as numbers
 use Rattle.dsv_base.specs.Numbers.{is_digit, is_decimal, digits_after}
 use Rattle.dsv_base.specs.Gives.{◌>>=◌}
 use Rattle.rev_scripts.specs.declared.item_fault.ItemFault.{ItemFault}
-use Rattle.rev_scripts.specs.Steps.{number_from, word_from, line_from, bytes_from, ok_where, longest, most_revision}
+use Rattle.rev_scripts.specs.Steps.{number_from, word_from, line_from, bytes_from, ok_where, most_revision}
 use Rattle.rev_scripts.specs.Items.{two_lengths, three_lengths, copy_numbers, one_part, two_parts, three_parts}
 
 -- ---- numbers
@@ -115,14 +115,14 @@ three_parts_back one two three rest =
 
 -- ---- numbers of a line
 
-pub two_lengths_back : (one two : ℕ) → one ≤ longest → two ≤ longest → two_lengths (decimal one ++ 32 ∷ decimal two) ≡ Ok (one, two)
-two_lengths_back one two few more =
-    rw (number_word one (decimal two) (omega arith), number_back longest one few (omega arith), number_back longest two more (omega arith)) refl
+pub two_lengths_back : (top one two : ℕ) → one ≤ top → two ≤ top → one < 2 ^ 64 → two < 2 ^ 64 → two_lengths top (decimal one ++ 32 ∷ decimal two) ≡ Ok (one, two)
+two_lengths_back top one two few more s t =
+    rw (number_word one (decimal two) s, number_back top one few s, number_back top two more t) refl
 
-pub three_lengths_back : (one two three : ℕ) → one ≤ longest → two ≤ longest → three ≤ longest → three_lengths (decimal one ++ 32 ∷ (decimal two ++ 32 ∷ decimal three)) ≡ Ok (one, two, three)
-three_lengths_back one two three few more most =
-    rw (number_word one (decimal two ++ 32 ∷ decimal three) (omega arith), number_back longest one few (omega arith)) (ap (λ (r : Result (ℕ × ℕ) ItemFault). r >>= (λ others. Ok (one, others.0, others.1))) (two_lengths_back two three more most))
+pub three_lengths_back : (top one two three : ℕ) → one ≤ top → two ≤ top → three ≤ top → one < 2 ^ 64 → two < 2 ^ 64 → three < 2 ^ 64 → three_lengths top (decimal one ++ 32 ∷ (decimal two ++ 32 ∷ decimal three)) ≡ Ok (one, two, three)
+three_lengths_back top one two three few more most s t u =
+    rw (number_word one (decimal two ++ 32 ∷ decimal three) s, number_back top one few s) (ap (λ (r : Result (ℕ × ℕ) ItemFault). r >>= (λ others. Ok (one, others.0, others.1))) (two_lengths_back top two three more most t u))
 
-pub copy_numbers_back : (number source rev path : ℕ) → source ≤ longest → rev ≤ most_revision → nat_lt rev number ≡ true → path ≤ longest → copy_numbers number (decimal source ++ 32 ∷ (decimal rev ++ 32 ∷ decimal path)) ≡ Ok (source, rev, path)
-copy_numbers_back number source rev path few young below more =
-    rw (number_word source (decimal rev ++ 32 ∷ decimal path) (omega arith), number_back longest source few (omega arith), number_word rev (decimal path) (omega arith), number_back most_revision rev young (omega arith), number_back longest path more (omega arith)) (ap (λ (b : Bool). ok_where b (source, rev, path)) below)
+pub copy_numbers_back : (top number source rev path : ℕ) → source ≤ top → rev ≤ most_revision → nat_lt rev number ≡ true → path ≤ top → source < 2 ^ 64 → path < 2 ^ 64 → copy_numbers top number (decimal source ++ 32 ∷ (decimal rev ++ 32 ∷ decimal path)) ≡ Ok (source, rev, path)
+copy_numbers_back top number source rev path few young below more s t =
+    rw (number_word source (decimal rev ++ 32 ∷ decimal path) s, number_back top source few s, number_word rev (decimal path) (omega arith), number_back most_revision rev young (omega arith), number_back top path more t) (ap (λ (b : Bool). ok_where b (source, rev, path)) below)

@@ -4,3 +4,4 @@ pub mod Items
 pub mod Scripts
 pub mod Written
 pub mod Reading
+pub mod Aloud

@@ -10,11 +10,12 @@ use Rattle.rev_scripts.specs.declared.item_fault.ItemFault.{ItemFault}
 use Rattle.rev_nodes.specs.declared.unfit.Unfit.{Unfit}
 use Rattle.rev_scripts.specs.declared.script_fault.ScriptFault.{ScriptFault}
 use Rattle.rev_scripts.specs.declared.script_fault.ScriptFault.TheVariants.{BadScript, NoMemory}
-use Rattle.rev_scripts.specs.Steps.{ok_where, line_from, word_from, after_front, number_from, longest, most_revision, at_line, line_after}
+use Rattle.rev_scripts.specs.Steps.{ok_where, line_from, word_from, after_front, number_from, most_revision, at_line, line_after}
 use Rattle.rev_scripts.specs.Uuids.{is_uuid}
 use Rattle.rev_scripts.specs.Items.{one_part, item_from, Told, nothing_told, may_follow, with_prop, with_change}
 use Rattle.rev_nodes.specs.Trees.{Repository, Revision}
 use Rattle.rev_nodes.specs.Pushes.{first_revision, pushed}
+use Rattle.rev_nodes.specs.Commits.{is_author}
 
 -- ---- the head
 
@@ -35,26 +36,23 @@ heading_from text = do
 
 -- ---- a revision
 
--- the first line of the revision of this number: its moment and the length of its author's name
-unfoldable pub revision_line : ℕ → List ℕ → Result (ℕ × ℕ) ItemFault
-revision_line number line = do
+-- the first line of the revision of this number: its moment, and the length of its author's name, which is at most the given one
+unfoldable pub revision_line : ℕ → ℕ → List ℕ → Result (ℕ × ℕ) ItemFault
+revision_line most number line = do
   numbers ← after_front (codes "revision ") line
   first ← word_from numbers
   told ← number_from most_revision first.0
   second ← word_from first.1
   moment ← number_from 253402300799999999 second.0
-  author ← number_from longest second.1
+  author ← number_from most second.1
   ok_where (told == number) (moment, author)
 
--- an author is a user, or nobody
-abbrev pub is_author : List ℕ → Bool
-is_author name = nat_eq (length name) 0 || is_user_name name
-
--- that line with the author after it: moment, author, and what stands after them
+-- the first line of the revision of this number, and its author: its moment, its author, and what stands after
+-- them
 unfoldable pub revision_head : ℕ → List ℕ → Result (ℕ × List ℕ × List ℕ) ItemFault
 revision_head number text = do
   line ← line_from text
-  told ← revision_line number line.0
+  told ← revision_line (length line.1) number line.0
   author ← one_part told.1 line.1
   ok_where (is_author author.0) (told.0, author.0, author.1)
 
@@ -66,11 +64,13 @@ next_item number told line text = at_line line (item_from number text >>= (λ re
 abbrev pub Items : Type 0
 Items = Told × Result (ℕ × List ℕ) ScriptFault
 
+-- what an item tells, and what the others after it tell
 abbrev pub after_item : (Told → ℕ → List ℕ → Items) → Told → ℕ → ℕ → Item × List ℕ → Items
 after_item others told line next (item.End, rest) = (told, Ok (next, rest))
 after_item others told line next (item.Prop prop, rest) = others (with_prop told prop) next rest
 after_item others told line next (item.Change change, rest) = others (with_change told change line) next rest
 
+-- what an item and those after it tell, or the fault of an item that can't be read
 abbrev pub and_others : (Told → ℕ → List ℕ → Items) → Told → ℕ → List ℕ → Result (Item × List ℕ) ScriptFault → Items
 and_others others told line text (Err fault) = (told, Err fault)
 and_others others told line text (Ok read) = after_item others told line (line_after line text read.1) read
@@ -80,6 +80,7 @@ unfoldable pub items_from : ℕ → ℕ → Told → ℕ → List ℕ → Items
 items_from zero number told line text = (told, Err (BadScript line))
 items_from (suc steps) number told line text = and_others (items_from steps number) told line text (next_item number told line text)
 
+-- the commit of what was told
 abbrev pub commit_of : List ℕ → ℕ → Told → Commit
 commit_of author moment told = record { author = author; moment = moment; props = told.props; changes = told.changes }
 
@@ -89,6 +90,7 @@ pub record Read : Type 0 where
   pub lines : List ℕ
   pub after : Result (ℕ × List ℕ) ScriptFault
 
+-- a revision by its head and its items
 abbrev pub read_of : ℕ × List ℕ × List ℕ → Items → Read
 read_of head items = record { commit = commit_of head.1 head.0 items.0; lines = items.0.lines; after = items.1 }
 
@@ -130,6 +132,7 @@ repository_from bytes = do
   revisions ← revisions_from (length after.1) (first_revision zeroth.commit ∷ []) after.0 after.1
   Ok (record { name = heading.0; uuid = heading.1; revisions = revisions })
 
+-- want of memory, which is no fault of the script
 abbrev pub wants_memory : ScriptFault → Bool
 wants_memory (BadScript line) = false
 wants_memory NoMemory = true

@@ -8,10 +8,12 @@ use Rattle.rev_scripts.specs.declared.item_fault.ItemFault.TheVariants.{Bad, NoM
 use Rattle.rev_scripts.specs.declared.script_fault.ScriptFault.{ScriptFault}
 use Rattle.rev_scripts.specs.declared.script_fault.ScriptFault.TheVariants as script
 
+-- the value; where there is none, the text isn't in the grammar
 abbrev pub or_bad : {X : Type 0} → Option X → Result X ItemFault
 or_bad None = Err Bad
 or_bad (Some x) = Ok x
 
+-- a value, where the test holds
 abbrev pub ok_where : {X : Type 0} → Bool → X → Result X ItemFault
 ok_where true x = Ok x
 ok_where false x = Err Bad
@@ -36,14 +38,11 @@ bytes_from count text = ok_where (nat_le count (length text)) (take count text, 
 abbrev pub number_from : ℕ → List ℕ → Result ℕ ItemFault
 number_from most text = or_bad (read_decimal most text)
 
--- no part of a script is longer
-abbrev pub longest : ℕ
-longest = 268435456
-
 -- no revision has a greater number
 abbrev pub most_revision : ℕ
 most_revision = 2000000000
 
+-- want of memory, which is no fault of the text
 abbrev pub is_no_memory : ItemFault → Bool
 is_no_memory Bad = false
 is_no_memory NoMemory = true

@@ -3,6 +3,7 @@ ghost use Rattle.dsv_base.specs.Gives.{GivesBy};
 ghost use Rattle.rev_nodes.specs.Pushes.{pushed};
 ghost use Rattle.rev_nodes.specs.Forests.{repository_of};
 ghost use Rattle.rev_trees.specs.Readies.{revisions_of, IsUnchanged};
+ghost use Rattle.rev_nodes.specs.Commits.{IsSoundCommit};
 ghost use Rattle.rev_scripts.specs.Scripts.{commit_of, at_change, revisions_from, repository_from, wants_memory};
 ghost use Rattle.rev_scripts.specs.Reading.{zeroth_from, next_from, FirstFault, PreparesTold, with_revisions};
 
@@ -36,6 +37,7 @@ fn zeroth_from(alloc: Global, text: &[u8]) -> Result<(Commit, u32, &[u8]), Scrip
     requires { length text.now ≤ 268435456 }
     ensures value { GivesBy (λ x. (x.0, x.1, x.2.now)) wants_memory result (zeroth_from text.now) }
     ensures none { IfOk result (λ x. x.0.changes ≡ []) }
+    ensures sound { IfOk result (λ x. IsSoundCommit x.0) }
     ensures room { IfOk result (λ x. x.1 + length x.2.now ≤ 4 + length text.now) }
     ensures shorter { IfOk result (λ x. length x.2.now ≤ length text.now) }
 {
@@ -113,6 +115,7 @@ fn first_fault(
     fault: ScriptFault,
 ) -> ScriptFault
     requires changes { MatchBool (wants_memory fault) ⊤ (length told.changes ≤ 4294967295) }
+    requires sound { MatchBool (wants_memory fault) ⊤ (IsSoundCommit (commit_of author moment told)) }
     requires few { length trees.old.revisions ≤ 2000000000 }
     ensures { FirstFault (at_change told.lines (pushed (revisions_of trees.old) (commit_of author moment told))) fault result }
 {
@@ -145,6 +148,7 @@ fn prepare_told(
     moment: Moment,
 ) -> Result<Ready, ScriptFault>
     requires changes { length told.changes ≤ 4294967295 }
+    requires sound { IsSoundCommit (commit_of author moment told) }
     requires few { length trees.old.revisions ≤ 2000000000 }
     ensures kept { IsUnchanged trees.old trees.new }
     ensures says { PreparesTold told.lines (commit_of author moment told) trees.old trees.new result }

@@ -8,9 +8,7 @@ ghost use Rattle.rev_scripts.specs.Items.{prop_from, mkdir_from, delete_from, pu
 use crate::cursor::{line_from, number_from, word_from};
 use crate::item::Item;
 use crate::item_fault::ItemFault;
-use crate::parts::{
-    LONGEST, copy_numbers, one_part, three_lengths, three_parts, two_lengths, two_parts,
-};
+use crate::parts::{copy_numbers, one_part, three_lengths, three_parts, two_lengths, two_parts};
 use dsv_base::{Bytes, Path, PathFault, Prop, Rev};
 use rev_nodes::{Change, is_property_name, is_revision_property};
 use std::alloc::Global;
@@ -87,7 +85,7 @@ fn prop_from<'a>(
     ensures value { GivesBy (λ x. (x.0, x.1.now)) is_no_memory result (prop_from numbers.now text.now) }
     ensures shorter { IfOk result (λ x. length x.1.now ≤ length text.now) }
 {
-    let (name, value) = two_lengths(numbers)?;
+    let (name, value) = two_lengths(text.len() as u64, numbers)?;
     let (name, value, rest) = two_parts(name, value, text)?;
     if !is_revision_property(name) {
         return Err(ItemFault::Bad);
@@ -105,7 +103,7 @@ fn mkdir_from<'a>(
     ensures value { GivesBy (λ x. (x.0, x.1.now)) is_no_memory result (mkdir_from numbers.now text.now) }
     ensures shorter { IfOk result (λ x. length x.1.now ≤ length text.now) }
 {
-    let size = number_from(LONGEST, numbers)?;
+    let size = number_from(text.len() as u64, numbers)?;
     let (path, rest) = one_part(size, text)?;
     let path = path_of(alloc, path)?;
     Ok((Item::Change(Change::Mkdir { path }), rest))
@@ -119,7 +117,7 @@ fn delete_from<'a>(
     ensures value { GivesBy (λ x. (x.0, x.1.now)) is_no_memory result (delete_from numbers.now text.now) }
     ensures shorter { IfOk result (λ x. length x.1.now ≤ length text.now) }
 {
-    let size = number_from(LONGEST, numbers)?;
+    let size = number_from(text.len() as u64, numbers)?;
     let (path, rest) = one_part(size, text)?;
     let path = path_of(alloc, path)?;
     Ok((Item::Change(Change::Delete { path }), rest))
@@ -133,7 +131,7 @@ fn put_from<'a>(
     ensures value { GivesBy (λ x. (x.0, x.1.now)) is_no_memory result (put_from numbers.now text.now) }
     ensures shorter { IfOk result (λ x. length x.1.now ≤ length text.now) }
 {
-    let (path, content) = two_lengths(numbers)?;
+    let (path, content) = two_lengths(text.len() as u64, numbers)?;
     let (path, content, rest) = two_parts(path, content, text)?;
     let path = path_of(alloc, path)?;
     let text = Bytes::of(alloc, content)?;
@@ -148,7 +146,7 @@ fn setprop_from<'a>(
     ensures value { GivesBy (λ x. (x.0, x.1.now)) is_no_memory result (setprop_from numbers.now text.now) }
     ensures shorter { IfOk result (λ x. length x.1.now ≤ length text.now) }
 {
-    let (path, name, value) = three_lengths(numbers)?;
+    let (path, name, value) = three_lengths(text.len() as u64, numbers)?;
     let (path, name, value, rest) = three_parts(path, name, value, text)?;
     let path = path_of(alloc, path)?;
     let name = name_of(alloc, name)?;
@@ -164,7 +162,7 @@ fn delprop_from<'a>(
     ensures value { GivesBy (λ x. (x.0, x.1.now)) is_no_memory result (delprop_from numbers.now text.now) }
     ensures shorter { IfOk result (λ x. length x.1.now ≤ length text.now) }
 {
-    let (path, name) = two_lengths(numbers)?;
+    let (path, name) = two_lengths(text.len() as u64, numbers)?;
     let (path, name, rest) = two_parts(path, name, text)?;
     let path = path_of(alloc, path)?;
     let name = name_of(alloc, name)?;
@@ -180,7 +178,7 @@ fn copy_from<'a>(
     ensures value { GivesBy (λ x. (x.0, x.1.now)) is_no_memory result (copy_from number numbers.now text.now) }
     ensures shorter { IfOk result (λ x. length x.1.now ≤ length text.now) }
 {
-    let (source, rev, path) = copy_numbers(number, numbers)?;
+    let (source, rev, path) = copy_numbers(text.len() as u64, number, numbers)?;
     let (source, path, rest) = two_parts(source, path, text)?;
     let source = path_of(alloc, source)?;
     let path = path_of(alloc, path)?;

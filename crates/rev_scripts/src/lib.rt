@@ -6,6 +6,7 @@ mod cursor;
 mod item;
 mod item_fault;
 mod items;
+mod laws;
 mod parts;
 mod reader;
 mod script_fault;
@@ -16,5 +17,6 @@ mod uuid;
 mod writer;
 
 pub use build::read_script;
+pub use laws::scripts_read_aloud;
 pub use script_fault::ScriptFault;
 pub use writer::write_revision;

@@ -1,46 +1,43 @@
 ghost use Rattle.std.specs.Prelude.{◌≡◌, ◌<◌, ◌≤◌, length, IfOk};
 ghost use Rattle.dsv_base.specs.Gives.{Gives, GivesBy};
-ghost use Rattle.rev_scripts.specs.Steps.{is_no_memory, longest};
+ghost use Rattle.rev_scripts.specs.Steps.{is_no_memory};
 ghost use Rattle.rev_scripts.specs.Items.{two_lengths, three_lengths, copy_numbers, one_part, two_parts, three_parts};
 
 use crate::cursor::{after_front, bytes_from, number_from, word_from};
 use crate::item_fault::ItemFault;
 use dsv_base::Rev;
 
-/// No part of a script is longer.
-pub const LONGEST: u64 = 268_435_456;
-
-/// The lengths of an item with two parts.
-pub fn two_lengths(numbers: &[u8]) -> Result<(u64, u64), ItemFault>
-    ensures { Gives is_no_memory result (two_lengths numbers.now) }
+/// The lengths of an item with two parts, each at most `most`.
+pub fn two_lengths(most: u64, numbers: &[u8]) -> Result<(u64, u64), ItemFault>
+    ensures { Gives is_no_memory result (two_lengths most numbers.now) }
 {
     let (one, two) = word_from(numbers)?;
-    let one = number_from(LONGEST, one)?;
-    let two = number_from(LONGEST, two)?;
+    let one = number_from(most, one)?;
+    let two = number_from(most, two)?;
     Ok((one, two))
 }
 
-/// The lengths of an item with three parts.
-pub fn three_lengths(numbers: &[u8]) -> Result<(u64, u64, u64), ItemFault>
-    ensures { Gives is_no_memory result (three_lengths numbers.now) }
+/// The lengths of an item with three parts, each at most `most`.
+pub fn three_lengths(most: u64, numbers: &[u8]) -> Result<(u64, u64, u64), ItemFault>
+    ensures { Gives is_no_memory result (three_lengths most numbers.now) }
 {
     let (one, others) = word_from(numbers)?;
-    let one = number_from(LONGEST, one)?;
-    let (two, three) = two_lengths(others)?;
+    let one = number_from(most, one)?;
+    let (two, three) = two_lengths(most, others)?;
     Ok((one, two, three))
 }
 
 /// The length of a copy's source, the revision that it is taken from, which is below `number`, and
-/// the length of the new path.
-pub fn copy_numbers(number: Rev, numbers: &[u8]) -> Result<(u64, u64, u64), ItemFault>
-    ensures value { Gives is_no_memory result (copy_numbers number numbers.now) }
+/// the length of the new path. No length is above `most`.
+pub fn copy_numbers(most: u64, number: Rev, numbers: &[u8]) -> Result<(u64, u64, u64), ItemFault>
+    ensures value { Gives is_no_memory result (copy_numbers most number numbers.now) }
     ensures bound { IfOk result (λ x. x.1 < number) }
 {
     let (source, others) = word_from(numbers)?;
-    let source = number_from(LONGEST, source)?;
+    let source = number_from(most, source)?;
     let (rev, path) = word_from(others)?;
     let rev = number_from(u64::from(Rev::MOST), rev)?;
-    let path = number_from(LONGEST, path)?;
+    let path = number_from(most, path)?;
     if rev >= u64::from(number.get()) {
         return Err(ItemFault::Bad);
     }

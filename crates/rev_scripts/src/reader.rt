@@ -3,15 +3,16 @@ ghost use Rattle.dsv_base.specs.Gives.{Gives, GivesBy};
 ghost use Rattle.dsv_base.specs.Names.{is_repository_name};
 ghost use Rattle.dsv_base.specs.Lines.{is_line_feed};
 ghost use Rattle.rev_scripts.specs.Steps.{is_no_memory, line_after};
+ghost use Rattle.rev_nodes.specs.Commits.{is_author};
 ghost use Rattle.rev_scripts.specs.Uuids.{is_uuid};
 ghost use Rattle.rev_scripts.specs.Items.{nothing_told};
-ghost use Rattle.rev_scripts.specs.Scripts.{told_line, heading_from, revision_line, is_author, revision_head, next_item, items_from, wants_memory, UnlessNoMemory};
+ghost use Rattle.rev_scripts.specs.Scripts.{told_line, heading_from, revision_line, revision_head, next_item, items_from, wants_memory, UnlessNoMemory};
 
 use crate::cursor::{after_front, line_from, number_from, word_from};
 use crate::item::Item;
 use crate::item_fault::ItemFault;
 use crate::items::item_from;
-use crate::parts::{LONGEST, one_part};
+use crate::parts::one_part;
 use crate::script_fault::ScriptFault;
 use crate::told::Told;
 use crate::uuid::is_uuid_text;
@@ -63,11 +64,11 @@ fn uuid_line(text: &[u8]) -> Result<(&[u8], &[u8]), ItemFault>
     Ok((uuid, rest))
 }
 
-/// The moment, and the length of the author's name, in the first line of the revision of this
-/// number.
+/// The moment, and the length of the author's name, which is at most `most`, in the first line of
+/// the revision of this number.
 #[tactic(auto, unfolding(crate::specs::Scripts::revision_line))]
-fn revision_line(number: Rev, line: &[u8]) -> Result<(u64, u64), ItemFault>
-    ensures value { Gives is_no_memory result (revision_line number line.now) }
+fn revision_line(most: u64, number: Rev, line: &[u8]) -> Result<(u64, u64), ItemFault>
+    ensures value { Gives is_no_memory result (revision_line most number line.now) }
     ensures bound { IfOk result (λ x. x.0 ≤ 253402300799999999) }
 {
     let numbers = after_front(b"revision ", line)?;
@@ -75,7 +76,7 @@ fn revision_line(number: Rev, line: &[u8]) -> Result<(u64, u64), ItemFault>
     let told = number_from(u64::from(Rev::MOST), told)?;
     let (moment, author) = word_from(rest)?;
     let moment = number_from(Moment::MOST, moment)?;
-    let author = number_from(LONGEST, author)?;
+    let author = number_from(most, author)?;
     if told != u64::from(number.get()) {
         return Err(ItemFault::Bad);
     }
@@ -90,7 +91,7 @@ pub fn revision_head(number: Rev, text: &[u8]) -> Result<(Moment, &[u8], &[u8]),
     ensures shorter { IfOk result (λ x. length x.2.now < length text.now) }
 {
     let (line, rest) = line_from(text)?;
-    let (moment, author) = revision_line(number, line)?;
+    let (moment, author) = revision_line(rest.len() as u64, number, line)?;
     let (author, rest) = one_part(author, rest)?;
     if !is_author(author) {
         return Err(ItemFault::Bad);

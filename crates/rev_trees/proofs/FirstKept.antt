@@ -15,7 +15,12 @@ use Rattle.rev_trees.specs.declared.revision.FlatRevision.{FlatRevision}
 use Rattle.rev_nodes.specs.Entries.{entries_in}
 use Rattle.rev_trees.specs.Numbers.{numbered_from}
 use Rattle.rev_trees.specs.Listed.{has_path, IsListed}
-use Rattle.rev_trees.specs.Kept.{root_place, places_in, lists_in, IsFlat, AreKept}
+use Rattle.rev_trees.specs.Kept.{root_place, places_in, lists_in, commit_in, IsFlat, AreKept}
+use Rattle.rev_nodes.specs.Commits.{comes_from_below, IsSoundCommit, IsCommitOf}
+use Rattle.rev_nodes.specs.SoundNodes.{HasSoundNode}
+use Rattle.rev_nodes.specs.declared.change.Change.{Change}
+use Rattle.std.specs.List.{list_all, All}
+use Rattle.std.proofs.lemmas.List.Elements.{All-nil, All-cons}
 use Rattle.rev_trees.proofs.Pushing.{none_listed}
 
 -- in the root alone stands nothing
@@ -57,13 +62,15 @@ root_formed = record {
     props true = refl
     props false = refl
 
-pub first_kept : (first : Commit) (rs : List FlatRevision) → rs ≡ record { commit = first; changed = []; places = root_place ∷ []; entries = [] ∷ [] } ∷ [] → AreKept rs
-first_kept first rs is = subst AreKept (sym is) (record {
+pub first_kept : (first : Commit) → IsSoundCommit first → first.changes ≡ [] → (rs : List FlatRevision) → rs ≡ record { commit = first; changed = []; places = root_place ∷ []; entries = [] ∷ [] } ∷ [] → AreKept rs
+first_kept first sound none rs is = subst AreKept (sym is) (record {
   some = omega arith;
   few = omega arith;
   flat = λ rev. flat rev;
   listed = λ rev. listed rev;
   formed = λ rev h. formed rev h;
+  nodes = λ rev. nodes rev;
+  commits = λ rev h. commits rev h;
 })
   where
     one : List FlatRevision
@@ -80,3 +87,11 @@ first_kept first rs is = subst AreKept (sym is) (record {
     formed : (rev : ℕ) → rev < length one → IsFormed (tree_in (places_in one rev))
     formed zero h = root_formed
     formed (suc rev) h = absurd (omega arith)
+
+    nodes : (rev : ℕ) → All (HasSoundNode rev) (tree_in (places_in one rev))
+    nodes zero = All-cons (HasSoundNode 0) (root_text, node_of root_place) [] (record { created = omega arith; since = omega arith; source = tt; names = refl }) (All-nil (HasSoundNode 0))
+    nodes (suc rev) = All-nil (HasSoundNode (suc rev))
+
+    commits : (rev : ℕ) → rev < length one → IsCommitOf rev (commit_in one rev)
+    commits zero h = record { sound = sound; sources = ap (λ (cs : List Change). list_all (comes_from_below 0) cs) none; first = λ e. none }
+    commits (suc rev) h = absurd (omega arith)

@@ -20,13 +20,24 @@ use Rattle.rev_nodes.specs.Entries.{is_child, entry_in, entries_in, AreEntriesOf
 use Rattle.rev_nodes.specs.Formed.{IsFormed, AreFormed}
 use Rattle.rev_trees.specs.Kept.{forest_of, places_in, AreKept}
 use Rattle.rev_nodes.proofs.Below.{same_from}
-use Rattle.rev_trees.proofs.Numbering.{places-are, length-of}
+use Rattle.rev_trees.proofs.Numbering.{places-are, length-of, commit-of}
+use Rattle.rev_nodes.specs.declared.commit.Commit.{Commit}
+use Rattle.rev_nodes.specs.Commits.{IsCommitOf, AreCommits}
+use Rattle.rev_nodes.specs.SoundNodes.{HasSoundNode, AreSoundNodes}
 use Rattle.rev_trees.proofs.Pushing.{tree_of-numbered}
 
 pub formed-of : (name uuid : List ℕ) (room : ℕ) (rs : List FlatRevision) → AreKept rs → (forest : Forest) → forest_of name uuid rs room ≡ forest → AreFormed forest
 formed-of name uuid room rs kept forest is = subst AreFormed is (λ rev h.
     let count = length-of name uuid room rs (forest_of name uuid rs room) refl in
     subst IsFormed (sym (ap tree_of (places-are name uuid room rs rev) ∙ tree_of-numbered rev 0 (places_in rs rev))) (kept.formed rev (omega (arith, count, h))))
+
+pub nodes-of : (name uuid : List ℕ) (room : ℕ) (rs : List FlatRevision) → AreKept rs → (forest : Forest) → forest_of name uuid rs room ≡ forest → AreSoundNodes forest
+nodes-of name uuid room rs kept forest is = subst AreSoundNodes is (λ rev.
+    subst (All (HasSoundNode rev)) (sym (ap tree_of (places-are name uuid room rs rev) ∙ tree_of-numbered rev 0 (places_in rs rev))) (kept.nodes rev))
+
+pub commits-of : (name uuid : List ℕ) (room : ℕ) (rs : List FlatRevision) → AreKept rs → (forest : Forest) → forest_of name uuid rs room ≡ forest → AreCommits forest
+commits-of name uuid room rs kept forest is rev below =
+    subst (λ (commit : Commit). IsCommitOf rev commit) (commit-of name uuid room rs forest rev is) (kept.commits rev (subst (λ n. rev < n) (length-of name uuid room rs forest is) below))
 
 -- look-ups without the numbers
 find-tree_of : (places : List (List ℕ × Numbered)) (path : List ℕ) → at path (tree_of places) ≡ option_map (λ (p : Numbered). p.here) (find (slice_cmp nat_cmp) path places)

@@ -13,6 +13,10 @@ use Rattle.rev_trees.specs.Flat.{tree_in, AreOf}
 use Rattle.rev_trees.specs.Kept.{places_in, trees_in}
 use Rattle.rev_trees.proofs.Steps.{source_tree}
 
+pub length-trees : (revisions : List FlatRevision) → length (trees_in revisions) ≡ length revisions
+length-trees [] = refl
+length-trees (q ∷ qs) = ap suc (length-trees qs)
+
 -- a change that was done to places
 pub formed_step : (revisions : List FlatRevision) (old new : List Place) (change : Change) (r : ℕ) → IsFormed (tree_in old) → ((rev : ℕ) → in_order (tree_in (places_in revisions rev)) ≡ true) → ((rev : ℕ) → rev < length revisions → IsFormed (tree_in (places_in revisions rev)))
     → is_path (path_of change) ≡ true → unfit change (trees_in revisions) (tree_in old) ≡ None → AreOf (apply change (trees_in revisions) (tree_in old) r) new → IsFormed (tree_in new)
@@ -21,7 +25,3 @@ formed_step revisions old new change r formed sorted all one fits are =
     (λ rev. ap in_order (source_tree revisions rev) ∙ sorted rev)
     (λ rev h. subst IsFormed (sym (source_tree revisions rev)) (all rev (let n = length-trees revisions in omega (arith, n, h))))
     change one fits)
-  where
-    length-trees : (revisions : List FlatRevision) → length (trees_in revisions) ≡ length revisions
-    length-trees [] = refl
-    length-trees (q ∷ qs) = ap suc (length-trees qs)

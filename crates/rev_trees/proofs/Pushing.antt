@@ -1,5 +1,5 @@
 -- Pushing a revision, as the kept revisions do it.
-use Rattle.std.proofs.Common.{◌≡◌, ℕ, zero, suc, ◌+◌, ◌-◌, ◌≤◌, ◌<◌, List, [], ◌∷◌, ◌++◌, Result, Ok, Err, length, map, refl, sym, ap, subst, ◌∙◌, arith}
+use Rattle.std.proofs.Common.{◌≡◌, ℕ, zero, suc, ◌+◌, ◌-◌, ◌≤◌, ◌<◌, true, List, [], ◌∷◌, ◌++◌, Result, Ok, Err, length, map, refl, sym, ap, subst, ◌∙◌, arith}
 use Rattle.dsv_base.specs.Gives.{◌>>=◌}
 use Rattle.rev_nodes.specs.declared.commit.Commit.{Commit}
 use Rattle.rev_trees.specs.declared.place.Place.{Place}
@@ -14,13 +14,19 @@ use Rattle.rev_nodes.specs.Pushes.{trees_of, youngest_tree, tree_after, revision
 use Rattle.rev_nodes.specs.Forests.{ForestRevision, Forest, tree_of, without_numbers}
 use Rattle.rev_trees.specs.Readies.{ReadyRevision, IsReadyOn, IsUnchanged, IsNext, Prepares, Pushes, revisions_of}
 use Rattle.rev_trees.specs.Flat.{node_of, tree_in}
-use Rattle.rev_trees.specs.Kept.{lists_in, numbered_revision, revisions_from, forest_of, places_in, trees_in, ready_of, IsFlat, IsReady, AreKept}
+use Rattle.rev_trees.specs.Kept.{lists_in, commit_in, numbered_revision, revisions_from, forest_of, places_in, trees_in, ready_of, IsFlat, IsReady, AreKept}
 use Rattle.rev_trees.specs.Numbers.{numbered_from}
 use Rattle.rev_trees.specs.Listed.{IsListed}
 use Rattle.rev_nodes.specs.Formed.{IsFormed}
 use Rattle.rev_trees.specs.Made.{youngest_in, tree_made, IsMade, Makes}
 use Rattle.rev_trees.proofs.Numbering.{length-of}
 use Rattle.rev_trees.proofs.Steps.{source_tree}
+use Rattle.rev_trees.proofs.FormedStep.{length-trees}
+use Rattle.rev_nodes.specs.Commits.{comes_from_below, IsSoundCommit, IsCommitOf}
+use Rattle.rev_nodes.specs.SoundNodes.{HasSoundNode}
+use Rattle.rev_nodes.proofs.NodesSound.{later_nodes, sound_changes, sources_below}
+use Rattle.std.specs.List.{list_all, All}
+use Rattle.std.proofs.lemmas.List.Elements.{All-nil}
 
 pub tree_of-numbered : (rev from : ℕ) (places : List Place) → tree_of (numbered_from rev from places) ≡ tree_in places
 tree_of-numbered rev from [] = refl
@@ -49,8 +55,8 @@ module _ (name uuid : List ℕ) (room : ℕ) (rs : List FlatRevision) (forest : 
   youngest-is = ap (λ (f : Forest). youngest_tree (revisions_of f)) (sym is) ∙ youngest-from rs
 
   -- what was made is the next revision
-  pub is_next : (commit : Commit) (rev : ℕ) (revision : FlatRevision) (ready : ReadyRevision) → IsMade rs commit revision → ready ≡ ready_of rev revision → IsNext (revisions_of forest) commit ready
-  is_next commit rev revision ready made as_made = subst (λ (r : ReadyRevision). IsNext (revisions_of forest) commit r) (sym as_made) (record {
+  pub is_next : (commit : Commit) (base : List FlatRevision) (revision : FlatRevision) (ready : ReadyRevision) → IsMade rs commit revision → ready ≡ ready_of base revision → IsNext (revisions_of forest) commit ready
+  is_next commit base revision ready made as_made = subst (λ (r : ReadyRevision). IsNext (revisions_of forest) commit r) (sym as_made) (record {
     commit_is = made.commit_is;
     tree_is = after-is commit ∙ made.tree_is;
     changed_is = made.changed_is ∙ ap (λ (before : Tree). changed_paths commit.changes before (tree_in revision.places)) (sym youngest-is);
@@ -79,6 +85,38 @@ formed-push [] r h formed (suc rev) within = absurd (omega arith)
 formed-push (q ∷ rs) r h formed zero within = h 0 (omega arith)
 formed-push (q ∷ rs) r h formed (suc rev) within = formed-push rs r (λ n less. h (suc n) (omega arith)) formed rev (omega arith)
 
+nodes-push : (from : ℕ) (rs : List FlatRevision) (r : FlatRevision) → ((rev : ℕ) → All (HasSoundNode (from + rev)) (tree_in (places_in rs rev))) → All (HasSoundNode (from + length rs)) (tree_in r.places) → (rev : ℕ) → All (HasSoundNode (from + rev)) (tree_in (places_in (rs ++ r ∷ []) rev))
+nodes-push from [] r h nodes zero = nodes
+nodes-push from [] r h nodes (suc rev) = All-nil (HasSoundNode (from + suc rev))
+nodes-push from (q ∷ rs) r h nodes zero = h 0
+nodes-push from (q ∷ rs) r h nodes (suc rev) =
+    let back : (from + 1) + rev ≡ from + suc rev = omega arith in
+    let last : from + suc (length rs) ≡ (from + 1) + length rs = omega arith in
+    subst (λ (n : ℕ). All (HasSoundNode n) (tree_in (places_in (rs ++ r ∷ []) rev))) back
+    (nodes-push (from + 1) rs r (λ n. let there : from + suc n ≡ (from + 1) + n = omega arith in subst (λ (m : ℕ). All (HasSoundNode m) (tree_in (places_in rs n))) there (h (suc n))) (subst (λ (m : ℕ). All (HasSoundNode m) (tree_in r.places)) last nodes) rev)
+
+nodes-more : (rs : List FlatRevision) (number : ℕ) (r : FlatRevision) → ((rev : ℕ) → All (HasSoundNode rev) (tree_in (places_in rs rev))) → All (HasSoundNode number) (tree_in r.places) → number ≡ length rs → (rev : ℕ) → All (HasSoundNode rev) (tree_in (places_in (rs ++ r ∷ []) rev))
+nodes-more rs number r nodes new next rev =
+    let begin : (n : ℕ) → n ≡ 0 + n = λ n. omega arith in
+    subst (λ (n : ℕ). All (HasSoundNode n) (tree_in (places_in (rs ++ r ∷ []) rev))) (sym (begin rev))
+    (nodes-push 0 rs r (λ n. subst (λ (m : ℕ). All (HasSoundNode m) (tree_in (places_in rs n))) (begin n) (nodes n)) (subst (λ (m : ℕ). All (HasSoundNode m) (tree_in r.places)) (next ∙ begin (length rs)) new) rev)
+
+commits-push : (from : ℕ) (rs : List FlatRevision) (r : FlatRevision) → ((rev : ℕ) → rev < length rs → IsCommitOf (from + rev) (commit_in rs rev)) → IsCommitOf (from + length rs) r.commit → (rev : ℕ) → rev < length rs + 1 → IsCommitOf (from + rev) (commit_in (rs ++ r ∷ []) rev)
+commits-push from [] r h commit zero within = commit
+commits-push from [] r h commit (suc rev) within = absurd (omega arith)
+commits-push from (q ∷ rs) r h commit zero within = h 0 (omega arith)
+commits-push from (q ∷ rs) r h commit (suc rev) within =
+    let back : (from + 1) + rev ≡ from + suc rev = omega arith in
+    let last : from + suc (length rs) ≡ (from + 1) + length rs = omega arith in
+    subst (λ (n : ℕ). IsCommitOf n (commit_in (rs ++ r ∷ []) rev)) back
+    (commits-push (from + 1) rs r (λ n less. let there : from + suc n ≡ (from + 1) + n = omega arith in subst (λ (m : ℕ). IsCommitOf m (commit_in rs n)) there (h (suc n) (omega arith))) (subst (λ (m : ℕ). IsCommitOf m r.commit) last commit) rev (omega arith))
+
+commits-more : (rs : List FlatRevision) (number : ℕ) (r : FlatRevision) → ((rev : ℕ) → rev < length rs → IsCommitOf rev (commit_in rs rev)) → IsCommitOf number r.commit → number ≡ length rs → (rev : ℕ) → rev < length rs + 1 → IsCommitOf rev (commit_in (rs ++ r ∷ []) rev)
+commits-more rs number r commits new next rev within =
+    let begin : (n : ℕ) → n ≡ 0 + n = λ n. omega arith in
+    subst (λ (n : ℕ). IsCommitOf n (commit_in (rs ++ r ∷ []) rev)) (sym (begin rev))
+    (commits-push 0 rs r (λ n less. subst (λ (m : ℕ). IsCommitOf m (commit_in rs n)) (begin n) (commits n less)) (subst (λ (m : ℕ). IsCommitOf m r.commit) (next ∙ begin (length rs)) new) rev within)
+
 pub none_listed : (rev : ℕ) → IsListed rev [] []
 none_listed rev = record { many = refl; each = λ index d h. absurd (omega arith); paths = λ index d h. absurd (omega arith) }
 
@@ -103,17 +141,19 @@ length-push [] r = refl
 length-push (q ∷ rs) r = let e = length-push rs r in omega (arith, e)
 
 -- the revisions with one more
-pub kept_more : (rs : List FlatRevision) (number : ℕ) (r : FlatRevision) → AreKept rs → IsReady number r → number ≡ length rs → AreKept (rs ++ r ∷ [])
-kept_more rs number r kept ready next = record {
+pub kept_more : (base rs : List FlatRevision) (number : ℕ) (r : FlatRevision) → AreKept rs → IsReady base number r → number ≡ length rs → AreKept (rs ++ r ∷ [])
+kept_more base rs number r kept ready next = record {
   some = omega (arith, length-push rs r);
   few = (let few = ready.few in omega (arith, length-push rs r, few, next));
   flat = flat-push rs r kept.flat ready.flat;
   listed = listed-more rs number r kept.listed ready.listed next;
   formed = λ rev h. let n = length-push rs r in formed-push rs r kept.formed ready.formed rev (omega (arith, n, h));
+  nodes = nodes-more rs number r kept.nodes ready.nodes next;
+  commits = λ rev h. let n = length-push rs r in commits-more rs number r kept.commits ready.commit next rev (omega (arith, n, h));
 }
 
-pub pushes_one : (name uuid : List ℕ) (room more : ℕ) (rs : List FlatRevision) (number : ℕ) (r : FlatRevision) (ready : ReadyRevision) (old : Forest) → forest_of name uuid rs room ≡ old → ready_of number r ≡ ready → Pushes ready old (forest_of name uuid (rs ++ r ∷ []) more)
-pushes_one name uuid room more rs number r ready old is as_ready =
+pub pushes_one : (name uuid : List ℕ) (room more : ℕ) (base rs : List FlatRevision) (r : FlatRevision) (ready : ReadyRevision) (old : Forest) → forest_of name uuid rs room ≡ old → ready_of base r ≡ ready → Pushes ready old (forest_of name uuid (rs ++ r ∷ []) more)
+pushes_one name uuid room more base rs r ready old is as_ready =
     subst (λ (f : Forest). Pushes ready f (forest_of name uuid (rs ++ r ∷ []) more)) is (subst (λ (q : ReadyRevision). Pushes q (forest_of name uuid rs room) (forest_of name uuid (rs ++ r ∷ []) more)) as_ready (record {
       name = refl;
       uuid = refl;
@@ -125,11 +165,43 @@ pushes_one name uuid room more rs number r ready old is as_ready =
     }))
 
 -- what was made on the youngest revision is ready where there is room
-pub ready_on : (name uuid : List ℕ) (room : ℕ) (rs : List FlatRevision) (number : ℕ) (revision : FlatRevision) (ready : ReadyRevision) → ready ≡ ready_of number revision → number ≡ length rs → 1 ≤ room → IsReadyOn ready (forest_of name uuid rs room)
-ready_on name uuid room rs number revision ready is next roomy = record {
-  next = ap (λ (r : ReadyRevision). r.number) is ∙ next ∙ sym (length-of name uuid room rs (forest_of name uuid rs room) refl);
-  roomy = roomy;
+pub ready_on : (name uuid : List ℕ) (room : ℕ) (rs : List FlatRevision) (revision : FlatRevision) (ready : ReadyRevision) → ready ≡ ready_of rs revision → 1 ≤ room → IsReadyOn ready (forest_of name uuid rs room)
+ready_on name uuid room rs revision ready is roomy = record {
+  base = ap (λ (r : ReadyRevision). r.base) is;
+  roomy = (let needs = ap (λ (r : ReadyRevision). r.needs) is in omega (arith, needs, roomy));
 }
+
+-- what was prepared on these revisions has the number after them
+pub number_on : (name uuid : List ℕ) (room : ℕ) (base rs : List FlatRevision) (number : ℕ) (revision : FlatRevision) (ready : ReadyRevision) (forest : Forest) → forest_of name uuid rs room ≡ forest → ready_of base revision ≡ ready → IsReady base number revision → IsReadyOn ready forest → number ≡ length rs
+number_on name uuid room base rs number revision ready forest is as_ready ready_is on =
+    let same = ap (λ (r : ReadyRevision). r.base) as_ready ∙ on.base ∙ ap (λ (f : Forest). f.revisions) (sym is) in
+    ready_is.next ∙ sym (length-from 0 base) ∙ ap (λ (qs : List ForestRevision). length qs) same ∙ length-from 0 rs
+  where
+    length-from : (from : ℕ) (qs : List FlatRevision) → length (revisions_from from qs) ≡ length qs
+    length-from from [] = refl
+    length-from from (q ∷ qs) = ap suc (length-from (from + 1) qs)
+
+-- what was made of a sound commit is ready
+pub made_ready : (rs : List FlatRevision) (commit : Commit) (number : ℕ) (revision : FlatRevision) → AreKept rs → IsSoundCommit commit → IsMade rs commit revision → number ≡ length rs → number ≤ 2000000000 → IsReady rs number revision
+made_ready rs commit number revision kept sound made next few =
+    let some = kept.some in
+    let sources : (rev : ℕ) → All (HasSoundNode rev) (tree_at (trees_in rs) rev) = λ rev. subst (All (HasSoundNode rev)) (sym (source_tree rs rev)) (kept.nodes rev) in
+    let before : All (HasSoundNode (length rs)) (youngest_in rs) = later_nodes (length rs - 1) (length rs) (youngest_in rs) (omega arith) (kept.nodes (length rs - 1)) in
+    let nodes : All (HasSoundNode (length rs)) (tree_in revision.places) = sound_changes (length rs) (trees_in rs) (length-trees rs) sources commit.changes 0 (youngest_in rs) (tree_in revision.places) sound.changes made.tree_is before in
+    let below = sources_below (length rs) (trees_in rs) (length-trees rs) sources commit.changes 0 (youngest_in rs) (tree_in revision.places) made.tree_is in
+    record {
+      next = next;
+      few = few;
+      commit = subst (λ (c : Commit). IsCommitOf number c) (sym made.commit_is) (record {
+        sound = sound;
+        sources = subst (λ (n : ℕ). list_all (comes_from_below n) commit.changes ≡ true) (sym next) below;
+        first = λ e. absurd (omega (arith, e, next, some));
+      });
+      nodes = subst (λ (n : ℕ). All (HasSoundNode n) (tree_in revision.places)) (sym next) nodes;
+      flat = made.flat;
+      listed = subst (λ (n : ℕ). IsListed n revision.places revision.entries) (sym next) made.listed;
+      formed = made.formed;
+    }
 
 map-push : (rs : List ForestRevision) (r : ForestRevision) → map without_numbers (rs ++ r ∷ []) ≡ map without_numbers rs ++ without_numbers r ∷ []
 map-push [] r = refl

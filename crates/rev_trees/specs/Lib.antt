@@ -1,4 +1,3 @@
-pub mod Named
 pub mod Readies
 pub mod Flat
 pub mod Numbers

@@ -7,7 +7,7 @@ use Rattle.rev_trees.specs.declared.place.Place.{Place}
 use Rattle.rev_nodes.specs.Entries.{entry_in, entries_in}
 use Rattle.rev_trees.specs.Numbers.{numbered_from, numbered}
 
--- the place's path is one
+-- the place's path is one, as a fact
 abbrev pub has_path : Place → Type 0
 has_path place = IsTrue (is_path place.path)
 

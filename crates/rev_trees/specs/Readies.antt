@@ -10,18 +10,20 @@ use Rattle.rev_nodes.specs.ChangedPaths.{changed_paths}
 use Rattle.rev_nodes.specs.Pushes.{youngest_tree, tree_after}
 use Rattle.rev_nodes.specs.Forests.{ForestRevision, Forest, tree_of, without_numbers}
 
--- the revision of this number
+-- a revision that was prepared on these, and how much room it needs to be pushed
 pub record ReadyRevision : Type 0 where
-  pub number : ℕ
+  pub base : List ForestRevision
+  pub needs : ℕ
   pub commit : Commit
   pub changed : List Changed
   pub tree : Tree
 
--- it was prepared on the youngest revision of these trees, which have room for it
+-- it was prepared on the revisions of these trees, which have room for it
 pub record IsReadyOn (ready : ReadyRevision) (forest : Forest) : Type 0 where
-  pub next : ready.number ≡ length forest.revisions
-  pub roomy : 1 ≤ forest.room
+  pub base : ready.base ≡ forest.revisions
+  pub roomy : ready.needs ≤ forest.room
 
+-- the revisions of the trees, without the numbers of nodes
 abbrev pub revisions_of : Forest → List Revision
 revisions_of forest = map without_numbers forest.revisions
 

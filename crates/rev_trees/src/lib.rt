@@ -8,7 +8,6 @@ mod edits;
 mod entry_list;
 mod listed;
 mod marks;
-mod named;
 mod next;
 mod place;
 mod places;

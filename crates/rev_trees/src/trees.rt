@@ -8,6 +8,9 @@ ghost use Rattle.rev_nodes.specs.Pushes.{first_revision};
 ghost use Rattle.rev_nodes.specs.Forests.{Numbered, id_at, line_at, revision_at, repository_of, IsId, IsNodeOf};
 ghost use Rattle.rev_nodes.specs.Entries.{AreEntriesOf, HasNoneInFile, IsSound};
 ghost use Rattle.rev_nodes.specs.Formed.{AreFormed};
+ghost use Rattle.rev_nodes.specs.Commits.{IsSoundCommit, IsCommitOf, AreCommits};
+ghost use Rattle.rev_nodes.specs.SoundNodes.{AreSoundNodes};
+ghost use Rattle.rev_nodes.specs.Subtrees.{HaveEqualSubtrees};
 ghost use Rattle.rev_trees.specs.Readies.{IsReadyOn, IsUnchanged, Prepares, Pushes};
 ghost use Rattle.rev_trees.specs.Kept.{places_in, lists_in, no_flat_revision, root_place};
 ghost use Rattle.rev_trees.specs.Numbers.{numbered_from};
@@ -56,7 +59,8 @@ impl Model for Trees {
 impl Trees {
     /// Trees with one revision, whose commit has no changes: the root alone.
     pub fn new(alloc: Global, name: &[u8], uuid: &[u8], first: Commit) -> Result<Trees, NoMemory>
-        requires { first.changes ≡ [] }
+        requires first { first.changes ≡ [] }
+        requires sound { IsSoundCommit first }
         ensures { IfOk result (λ t. repository_of t ≡ record { name = name.now; uuid = uuid.now; revisions = first_revision first ∷ [] }) }
     {
         let name = Bytes::of(alloc, name)?;
@@ -86,8 +90,7 @@ impl Trees {
 
     /// The number of the youngest revision.
     pub fn youngest(&self) -> Rev
-        ensures number { result + 1 ≡ length self.now.revisions }
-        ensures formed { AreFormed self.now }
+        ensures { result + 1 ≡ length self.now.revisions }
     {
         let count = self.revisions.len();
         match Rev::of((count - 1) as u32) {
@@ -96,10 +99,23 @@ impl Trees {
         }
     }
 
+    /// What holds of all trees. They are formed; their nodes and commits are sound; they stand in
+    /// order, and what has one number is alike; and so equal numbers have equal subtrees.
+    pub fn learn(&self)
+        ensures formed { AreFormed self.now }
+        ensures nodes { AreSoundNodes self.now }
+        ensures commits { AreCommits self.now }
+        ensures sound { IsSound self.now }
+        ensures subtrees { HaveEqualSubtrees self.now }
+    {
+        let _alloc = self.alloc;
+    }
+
     /// The commit of a revision.
     pub fn commit_of(&self, rev: Rev) -> &Commit
         requires { rev < length self.now.revisions }
-        ensures { result.now ≡ (revision_at self.now rev).commit }
+        ensures is { result.now ≡ (revision_at self.now rev).commit }
+        ensures sound { IsCommitOf rev result.now }
     {
         &revision_of(self.revisions.as_slice(), rev.get() as usize).commit
     }
@@ -163,7 +179,8 @@ impl Trees {
     /// [`PushFault::FullRevisions`] comes exactly where the youngest revision is 2,000,000,000, before
     /// the changes are tried; [`PushFault::Unfit`] has the number of the first change that doesn't fit.
     pub fn prepare(&mut self, commit: Commit) -> Result<Ready, PushFault>
-        requires { length commit.changes ≤ 4294967295 }
+        requires few { length commit.changes ≤ 4294967295 }
+        requires sound { IsSoundCommit commit }
         ensures kept { IsUnchanged self.old self.new }
         ensures says { Prepares commit self.old self.new result }
     {
@@ -173,7 +190,7 @@ impl Trees {
         };
         self.revisions.reserve(1)?;
         let revision = next_revision(self.alloc, self.revisions.as_slice(), commit, rev)?;
-        Ok(Ready::of(rev, revision))
+        Ok(Ready::of(rev, revision, &self.revisions))
     }
 
     /// Adds the revision that is ready, and answers its number. It takes no memory, and the other

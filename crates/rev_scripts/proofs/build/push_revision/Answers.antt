@@ -3,6 +3,7 @@ use Rattle.std.proofs.lemmas.Result.{err_from_is_err_and}
 use Rattle.rev_scripts.specs.Scripts.{with_read}
 use Rattle.rev_trees.specs.Readies.{revisions_of}
 use Rattle.rev_scripts.proofs.ReadRevisions.{head_fault, fault_next, unfit_next, whole_next, length-revisions_of}
+use Rattle.rev_scripts.proofs.SoundTold.{read_commit, unless_sound}
 use Rattle.rev_scripts.proofs.build.push_revision.Goals as goal
 
 pub returns-in-Err-clause-value : goal.returns-in-Err-clause-value
@@ -38,3 +39,15 @@ returns-clause-value c =
     (rw (c.new-told.ensures, c.line_after-begins.ensures.value) at c.in-Ok-read.ensures.told)
     (rw (c.new-told.ensures, c.line_after-begins.ensures.value) at c.in-Ok-read.ensures.after)
     c.in_ok-ready.ensures.kept (rw c.in_ok-author.ensures at c.in_ok-ready.ensures.says.1) c.push_ready.ensures.pushes
+
+pub prepare_told-requires-clause-sound : goal.prepare_told-requires-clause-sound
+prepare_told-requires-clause-sound c =
+    let head : ℕ × List ℕ × List ℕ = (c.in-Ok.head.0, c.in-Ok.head.1.now, c.in-Ok.head.2.now) in
+    read_commit c.next_number-number.result c.args.line c.args.text.now head _ _ c.read_items-read.new.told c.in_ok-author.author c.in-Ok.head.0 c.in-Ok.ensures.value c.in_ok-author.ensures
+    (rw (c.new-told.ensures, c.line_after-begins.ensures.value) at c.in-Ok-read.ensures.told)
+
+pub first_fault-requires-clause-sound : goal.first_fault-requires-clause-sound
+first_fault-requires-clause-sound c =
+    let head : ℕ × List ℕ × List ℕ = (c.in-Ok.head.0, c.in-Ok.head.1.now, c.in-Ok.head.2.now) in
+    unless_sound c.next_number-number.result c.args.line c.args.text.now head _ _ c.read_items-read.new.told c.in_ok-author.author c.in-Ok.head.0 c.in-Err-read.fault c.in-Ok.ensures.value c.in_ok-author.ensures
+    (rw (c.new-told.ensures, c.line_after-begins.ensures.value) at c.in-Err-read.ensures.told)

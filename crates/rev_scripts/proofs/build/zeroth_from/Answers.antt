@@ -1,8 +1,10 @@
-use Rattle.std.proofs.Common.{ℕ, List, ap, ◌∙◌}
+use Rattle.std.proofs.Common.{ℕ, List, sym, ap, subst, ◌∙◌}
 use Rattle.std.proofs.lemmas.Result.{err_from_is_err_and}
 use Rattle.rev_nodes.specs.declared.commit.Commit.{Commit}
 use Rattle.rev_scripts.specs.Items.{Told, nothing_told}
 use Rattle.rev_scripts.proofs.ReadRevisions.{head_fault, zeroth_of, zeroth_fault, zeroth_whole, none_told}
+use Rattle.rev_nodes.specs.Commits.{IsSoundCommit}
+use Rattle.rev_scripts.proofs.SoundTold.{read_commit}
 use Rattle.rev_scripts.proofs.build.zeroth_from.Goals as goal
 
 pub returns-in-Err-clause-value : goal.returns-in-Err-clause-value
@@ -24,3 +26,10 @@ returns-clause-none c =
     ap (λ (commit : Commit). commit.changes) c.into_commit-commit.ensures.commit
     ∙ ap (λ (told : Told). told.changes) (rw (c.zeroth-2.ensures, c.new-told.ensures, c.line_after-line.ensures.value) at c.in_ok-line.ensures.told)
     ∙ none_told _ nothing_told _ _
+
+pub returns-clause-sound : goal.returns-clause-sound
+returns-clause-sound c =
+    let head : ℕ × List ℕ × List ℕ = (c.in-Ok.head.0, c.in-Ok.head.1.now, c.in-Ok.head.2.now) in
+    subst IsSoundCommit (sym c.into_commit-commit.ensures.commit)
+    (read_commit 0 4 c.args.text.now head _ _ c.read_items.new.told c.in_ok-author.author c.in-Ok.head.0 (rw c.zeroth.ensures at c.in-Ok.ensures.value) c.in_ok-author.ensures
+    (rw (c.zeroth-2.ensures, c.new-told.ensures, c.line_after-line.ensures.value) at c.in_ok-line.ensures.told))

@@ -1,0 +1,5 @@
+pub mod Uppers
+pub mod Ancestors
+pub mod Noting
+pub mod OnePass
+pub mod RowsFound

@@ -1,0 +1,2 @@
+pub mod ChangeTables
+pub mod Rows

@@ -1,0 +1,10 @@
+//! What the changes of a commit did last to each path that they name, told by one pass over them.
+#![tactic(auto)]
+
+mod law;
+mod row;
+mod table;
+
+pub use law::one_pass_tells_changed_paths;
+pub use row::{LastCopy, Row};
+pub use table::ChangeTable;
