@@ -7,7 +7,7 @@ use Rattle.dav_replies.specs.Refusals.{refusal_reply}
 use Rattle.dav_replies.specs.declared.refusal.Refusal.{Refusal}
 use Rattle.log_access.specs.Shown.{shown_of}
 use Rattle.dav_machine.specs.declared.effect.Effect.{Effect}
-use Rattle.dav_machine.specs.AllReplies.{unchanging, answer, answered, or_refusal, reply_to}
+use Rattle.dav_machine.specs.AllReplies.{unchanging, answer, answered, or_refusal, reply_to, read_reply}
 use Rattle.dav_machine.specs.Chains.{Permit, permitted, viewer}
 use Rattle.dav_machine.specs.ReadReplies.{read_answer}
 use Rattle.dav_machine.specs.States.{State}
@@ -21,9 +21,6 @@ decided state request refusal moment kept refused =
     ap (λ (r : Result Permit Refusal). or_refusal (r >>= (λ permit. answer state (viewer request.login) permit moment kept))) refused
 
 -- a reply by the view alone
-abbrev pub replied : View → Request → Reply × Option Effect
-replied view request = or_refusal (permitted view.shown.name view.shown.rules request >>= (λ permit. unchanging (read_answer view permit)))
-
-pub by_view : (state : State) (request : Request) (moment : ℕ) (kept : Bool) → reply_to state request moment kept ≡ replied (view_of state (viewer request.login)) request
+pub by_view : (state : State) (request : Request) (moment : ℕ) (kept : Bool) → reply_to state request moment kept ≡ read_reply (view_of state (viewer request.login)) request
 unfolding reply_to answered shown_of
 by_view state request moment kept = refl

@@ -67,6 +67,12 @@ or_refusal (Err refusal) = (refusal_reply refusal, None)
 unfoldable pub reply_to : State → Request → ℕ → Bool → Reply × Option Effect
 reply_to state request moment kept = or_refusal (answered state request moment kept)
 
+-- the reply to a reading request, as a function of what the user may see: nothing else is among its arguments
+abbrev pub read_reply : View → Request → Reply × Option Effect
+read_reply view request =
+    or_refusal
+    (permitted view.shown.name view.shown.rules request >>= (λ permit. unchanging (read_answer view permit)))
+
 -- the bytes of a reply to a request
 abbrev pub written : Reply → Request → List ℕ
 written reply request = reply_text reply (is_head request) request.last

@@ -55,22 +55,25 @@ or_wrong_method kind (Some method) = if is_allowed kind method then Ok method el
 abbrev pub by_method : AllowKind → List ℕ → Result Method Refusal
 by_method kind name = or_wrong_method kind (method_of name)
 
--- what is asked for by the method, as its headers say it; what isn't built yet is refused by name
-abbrev pub asked_by : Method → Result Asked Refusal
-asked_by sent.Options = Ok ask.Options
-asked_by sent.Get = Ok ask.Get
-asked_by sent.Head = Ok ask.Head
-asked_by sent.Propfind = Err (NotInProfile Later)
-asked_by sent.Report = Err (NotInProfile Later)
-asked_by sent.Post = Err (NotInProfile Later)
-asked_by sent.Put = Err (NotInProfile Later)
-asked_by sent.Mkcol = Err (NotInProfile Later)
-asked_by sent.Proppatch = Err (NotInProfile Later)
-asked_by sent.Delete = Err (NotInProfile Later)
-asked_by sent.Copy = Err (NotInProfile Later)
-asked_by sent.Merge = Err (NotInProfile Later)
-asked_by sent.Lock = Err (NotInProfile Later)
-asked_by sent.Unlock = Err (NotInProfile Later)
+-- ---- headers
+
+-- what is asked for by the method, as its headers say it; as yet no header is read. What isn't built yet is refused by
+-- name, in the method's place
+abbrev pub by_headers : Method → Request → Result Asked Refusal
+by_headers sent.Options request = Ok ask.Options
+by_headers sent.Get request = Ok ask.Get
+by_headers sent.Head request = Ok ask.Head
+by_headers sent.Propfind request = Err (NotInProfile Later)
+by_headers sent.Report request = Err (NotInProfile Later)
+by_headers sent.Post request = Err (NotInProfile Later)
+by_headers sent.Put request = Err (NotInProfile Later)
+by_headers sent.Mkcol request = Err (NotInProfile Later)
+by_headers sent.Proppatch request = Err (NotInProfile Later)
+by_headers sent.Delete request = Err (NotInProfile Later)
+by_headers sent.Copy request = Err (NotInProfile Later)
+by_headers sent.Merge request = Err (NotInProfile Later)
+by_headers sent.Lock request = Err (NotInProfile Later)
+by_headers sent.Unlock request = Err (NotInProfile Later)
 
 -- ---- login
 
@@ -85,6 +88,12 @@ abbrev pub by_login : Login → Result (Option (List ℕ)) Refusal
 by_login Nobody = Ok None
 by_login (User person) = Ok (Some person.name)
 by_login Wrong = Err NeedsLogin
+
+-- ---- body
+
+-- what is asked for, with what the body says; as yet no body is read
+abbrev pub by_body : Asked → Request → Result Asked Refusal
+by_body asked request = Ok asked
 
 -- ---- rule
 
@@ -106,15 +115,20 @@ revision_in (named.RevOnly rev) = Some rev
 revision_in (named.Txr name path) = None
 revision_in (named.Txn name) = None
 
--- what a request aims at: the path whose rule is asked, if there is one, and the revisions that are named, in the order
--- in which they are tried
+-- what a request aims at: the path whose rule is asked, if there is one, the revisions that are named, in the order in
+-- which they are tried, and the one of them whose tree is meant; where none is, the youngest is meant
 pub record Aim : Type 0 where
   pub path : Option (List ℕ)
   pub revisions : List ℕ
+  pub meant : Option ℕ
 
 -- the aim of what only its target names
 abbrev pub target_aim : Resource → Aim
-target_aim resource = record { path = path_in resource; revisions = option_to_list (revision_in resource) }
+target_aim resource = record {
+  path = path_in resource;
+  revisions = option_to_list (revision_in resource);
+  meant = revision_in resource;
+}
 
 -- the aim of what is asked for
 abbrev pub aim_of : Asked → Resource → Aim
@@ -159,8 +173,9 @@ unfoldable pub permitted : List ℕ → List Rule → Request → Result Permit 
 permitted name rules request = do
   resource ← by_target name request.target
   method ← by_method (kind_of resource) request.method
-  asked ← asked_by method
+  headed ← by_headers method request
   user ← by_login request.login
+  asked ← by_body headed request
   by_aim rules name user resource asked
 
 -- ---- what the method alone decides

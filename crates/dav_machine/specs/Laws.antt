@@ -8,10 +8,17 @@ use Rattle.dav_replies.specs.Methods.{method_of}
 use Rattle.dav_replies.specs.declared.method.Method.{Method}
 use Rattle.dav_replies.specs.declared.method.Method.TheVariants.{Options, Get, Head, Propfind}
 use Rattle.dav_replies.specs.declared.refusal.Refusal.{Refusal}
-use Rattle.dav_machine.specs.AllReplies.{is_reading, reply_to}
+use Rattle.dav_machine.specs.AllReplies.{is_reading, reply_to, read_reply}
 use Rattle.dav_machine.specs.Chains.{permitted, viewer, path_in}
 use Rattle.dav_machine.specs.States.{State}
 use Rattle.dav_machine.specs.Views.{view_of}
+
+-- the reply to a reading request is a function of what the state shows to its user, and of the request
+abbrev pub ReadByTheView : Type 0
+ReadByTheView =
+    (state : State) (request : Request) (moment : ℕ) (kept : Bool)
+    → is_reading request ≡ true
+    → reply_to state request moment kept ≡ read_reply (view_of state (viewer request.login)) request
 
 -- a reading request is answered alike in any two states that show its user the same, at any moments, whatever the keeper
 -- would do

@@ -3,7 +3,8 @@ use Rattle.std.specs.Prelude.{ℕ, List, [], Option}
 use Rattle.dav_machine.specs.Histories.{HistoryEntry}
 use Rattle.dav_machine.specs.States.{State}
 
--- one start of passes over one hub, by what the hub was at that time
+-- one start of passes over one hub, by what the hub is told by: what it opened with, and what was done before the passes
+-- began
 pub record Origin : Type 0 where
   -- what tells one start from another
   pub mark : List ℕ
@@ -18,6 +19,7 @@ pub record Origin : Type 0 where
   -- what the hub's first keeper had kept, where it tells that
   pub kept : Option (List (ℕ × List ℕ))
 
--- the origin of a hub that one connection has for itself: it is of no start, has one pass, and no history before it
+-- the origin of a hub that one connection has for itself: it is of no start and has one pass, whose history is counted
+-- from the hub's opening
 abbrev pub alone : State → ℕ → Option (List (ℕ × List ℕ)) → Origin
 alone opening faults kept = record { mark = []; passes = 1; opening = opening; history = []; faults = faults; kept = kept }

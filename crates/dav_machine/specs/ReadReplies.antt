@@ -14,7 +14,7 @@ use Rattle.dav_replies.specs.declared.refusal.Refusal.TheVariants.{NoNode, NoRev
 use Rattle.log_access.specs.Shown.{Shown, node_in, nodes_in}
 use Rattle.dav_machine.specs.declared.asked.Asked.{Asked}
 use Rattle.dav_machine.specs.declared.asked.Asked.TheVariants.{Options, Get, Head}
-use Rattle.dav_machine.specs.Chains.{Permit, aim_of}
+use Rattle.dav_machine.specs.Chains.{Aim, Permit, aim_of}
 use Rattle.dav_machine.specs.Listings.{listing_text, children_in}
 use Rattle.dav_machine.specs.Media.{media_type}
 use Rattle.dav_machine.specs.Replies.{content_reply, html_type, options_reply}
@@ -27,14 +27,14 @@ abbrev pub all_there : ℕ → List ℕ → ℕ → Result ℕ Refusal
 all_there youngest [] meant = Ok meant
 all_there youngest (rev ∷ revs) meant = if nat_le rev youngest then all_there youngest revs meant else Err (NoRevision rev)
 
--- the first revision that is named is the one whose tree is meant, and else the youngest
-abbrev pub meant_of : ℕ → List ℕ → ℕ
-meant_of youngest [] = youngest
-meant_of youngest (rev ∷ revs) = rev
+-- the revision whose tree is meant, and else the youngest
+abbrev pub meant_of : ℕ → Option ℕ → ℕ
+meant_of youngest None = youngest
+meant_of youngest (Some rev) = rev
 
 -- the revision that is meant, where all that are named are there
-abbrev pub by_revisions : ℕ → List ℕ → Result ℕ Refusal
-by_revisions youngest revs = all_there youngest revs (meant_of youngest revs)
+abbrev pub by_revisions : ℕ → List ℕ → Option ℕ → Result ℕ Refusal
+by_revisions youngest revs meant = all_there youngest revs (meant_of youngest meant)
 
 -- ---- node
 
@@ -69,8 +69,12 @@ asked_reply view Options resource rev path =
 asked_reply view Get resource rev path = content_at view.shown resource rev path
 asked_reply view Head resource rev path = content_at view.shown resource rev path
 
+-- what is answered of this aim
+abbrev pub aimed_reply : View → Asked → Resource → Aim → Result Reply Refusal
+aimed_reply view asked resource aim =
+    by_revisions view.shown.youngest aim.revisions aim.meant
+    >>= (λ rev. asked_reply view asked resource rev aim.path)
+
 -- what is answered to a request that is let through: revision, node, and then the reply
 unfoldable pub read_answer : View → Permit → Result Reply Refusal
-read_answer view permit =
-    by_revisions view.shown.youngest (aim_of permit.asked permit.resource).revisions
-    >>= (λ rev. asked_reply view permit.asked permit.resource rev (aim_of permit.asked permit.resource).path)
+read_answer view permit = aimed_reply view permit.asked permit.resource (aim_of permit.asked permit.resource)

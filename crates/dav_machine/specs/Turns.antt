@@ -44,7 +44,7 @@ pub record IsEntryOf (call : Call) (entry : HistoryEntry) : Type 0 where
 -- ---- over a history that nobody else extends: what a hub promises
 
 -- nothing is done: the history stays, and the call is answered by the state at its end
-pub record Kept (opening : State) (history : List HistoryEntry) (call : Call) (answer : Answer) (later : List HistoryEntry) : Type 0 where
+pub record Stayed (opening : State) (history : List HistoryEntry) (call : Call) (answer : Answer) (later : List HistoryEntry) : Type 0 where
   pub same : later ≡ history
   pub bytes : RepliesOnly (replay opening history) call answer.bytes
   pub at_front : answer.front ≡ length later
@@ -61,7 +61,7 @@ pub record Added (opening : State) (history : List HistoryEntry) (call : Call) (
 
 -- what one call is answered, and what it adds: one entry of its own or none
 abbrev pub Acted : State → List HistoryEntry → Call → Answer → List HistoryEntry → Type 0
-Acted opening history call answer later = Kept opening history call answer later ⊎ Added opening history call answer later
+Acted opening history call answer later = Stayed opening history call answer later ⊎ Added opening history call answer later
 
 -- ---- over a history that others may extend between any two calls: what a turn promises
 

@@ -11,7 +11,7 @@ use dsv_base::{Path, Rev};
 pub struct Aim<'a> {
     /// The path whose rule is asked, if there is one.
     pub path: Option<&'a Path>,
-    /// The revision that is named, if one is.
+    /// The revision that is named, if one is: its tree is meant, and else the youngest's.
     pub revision: Option<Rev>,
 }
 
@@ -19,6 +19,7 @@ pub struct Aim<'a> {
 pub fn aim_of(asked: Asked, resource: &Resource) -> Aim<'_>
     ensures path { option_copied result.path ≡ (aim_of asked resource.now).path }
     ensures revisions { option_to_list result.revision ≡ (aim_of asked resource.now).revisions }
+    ensures meant { result.revision ≡ (aim_of asked resource.now).meant }
 {
     match asked {
         Asked::Options => target_aim(resource),
@@ -31,6 +32,7 @@ pub fn aim_of(asked: Asked, resource: &Resource) -> Aim<'_>
 fn target_aim(resource: &Resource) -> Aim<'_>
     ensures path { option_copied result.path ≡ (target_aim resource.now).path }
     ensures revisions { option_to_list result.revision ≡ (target_aim resource.now).revisions }
+    ensures meant { result.revision ≡ (target_aim resource.now).meant }
 {
     Aim {
         path: path_in(resource),

@@ -3,7 +3,7 @@ ghost use Rattle.std.specs.Option.{option_copied};
 ghost use Rattle.dsv_base.specs.Gives.{Gives, GivesBy};
 ghost use Rattle.dav_names.specs.Targets.{target};
 ghost use Rattle.dav_replies.specs.Faults.{refusal_no_memory};
-ghost use Rattle.dav_machine.specs.Chains.{or_bad_target, kind_of, by_method, asked_by, viewer, by_login};
+ghost use Rattle.dav_machine.specs.Chains.{or_bad_target, kind_of, by_method, by_headers, by_body, viewer, by_login};
 ghost use Rattle.dav_machine.specs.Chains.{aim_of, by_rule, denied, permit_of, permitted, is_head_method, is_head};
 ghost use Rattle.dav_machine.specs.Presents.{MayRead};
 
@@ -41,8 +41,9 @@ pub fn permitted<'a>(
 {
     let resource = by_target(alloc, present.root(), request.target.get())?;
     let method = by_method(kind_of(&resource), request.method.get())?;
-    let asked = asked_by(method)?;
+    let headed = by_headers(method, request)?;
     let user = by_login(&request.login)?;
+    let asked = by_body(headed, request)?;
     by_rule(present, user, aim_of(asked, &resource).path)?;
     Ok(Permit {
         resource,
@@ -93,9 +94,10 @@ fn by_method(kind: AllowKind, name: &[u8]) -> Result<Method, Refusal>
     }
 }
 
-/// What is asked for by the method. What isn't built yet is refused by name.
-fn asked_by(method: Method) -> Result<Asked, Refusal>
-    ensures { Gives refusal_no_memory result (asked_by method) }
+/// What is asked for by the method, as its headers say it; as yet no header is read. What isn't built yet
+/// is refused by name.
+fn by_headers(method: Method, request: &Request) -> Result<Asked, Refusal>
+    ensures { Gives refusal_no_memory result (by_headers method request.now) }
 {
     match method {
         Method::Options => Ok(Asked::Options),
@@ -125,6 +127,13 @@ fn by_login(login: &Login) -> Result<Option<&[u8]>, Refusal>
         Login::User(person) => Ok(Some(person.name.get())),
         Login::Wrong => Err(Refusal::NeedsLogin),
     }
+}
+
+/// What is asked for, with what the body says; as yet no body is read.
+fn by_body(asked: Asked, request: &Request) -> Result<Asked, Refusal>
+    ensures { Gives refusal_no_memory result (by_body asked request.now) }
+{
+    Ok(asked)
 }
 
 /// The path, if there is one, which the user has to be allowed to read. The rule is asked before the tree

@@ -1,4 +1,9 @@
-ghost use Rattle.dav_machine.specs.Laws.{ShownAlikeAnsweredAlike, RefusedAlike, HiddenAnsweredAlike};
+ghost use Rattle.dav_machine.specs.Laws.{ReadByTheView, ShownAlikeAnsweredAlike, RefusedAlike, HiddenAnsweredAlike};
+
+/// The reply to a reading request is a function of what the state shows to its user, and of the request.
+pub fn read_by_the_view()
+    ensures { ReadByTheView }
+{}
 
 /// A reading request is answered alike in any two states that show its user the same, at any moments.
 pub fn shown_alike_answered_alike()

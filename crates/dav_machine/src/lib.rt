@@ -30,7 +30,9 @@ pub use chain::is_head;
 pub use effect::Effect;
 pub use event::Event;
 pub use hub::Hub;
-pub use laws::{hidden_answered_alike, refused_alike, shown_alike_answered_alike};
+pub use laws::{
+    hidden_answered_alike, read_by_the_view, refused_alike, shown_alike_answered_alike,
+};
 pub use outgoing::Outgoing;
 pub use solo::Solo;
 pub use turn::Turn;

@@ -46,7 +46,7 @@ pub fn read_answer(
 /// The revision that is meant: the one that is named, which has to be there, or the youngest.
 fn by_revisions(trees: &Trees, named: Option<Rev>) -> Result<Rev, Refusal>
     ensures value { Gives refusal_no_memory result
-        (by_revisions (length trees.now.revisions - 1) (option_to_list named)) }
+        (by_revisions (length trees.now.revisions - 1) (option_to_list named) named) }
     ensures there { IfOk result (λ rev. rev < length trees.now.revisions) }
 {
     let youngest = trees.youngest();
