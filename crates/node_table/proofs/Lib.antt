@@ -1,0 +1,12 @@
+pub mod Ways
+pub mod Growing
+pub mod Fronts
+pub mod EntryLaws
+pub mod Upwards
+pub mod Over
+pub mod Marking
+pub mod PathNames
+pub mod Hung
+pub mod Hangs
+pub mod Stepping
+pub mod OtherSteps

@@ -1,0 +1,44 @@
+-- What a change adds to the table.
+use Rattle.std.specs.Prelude.{ℕ, ◌≡◌, ◌≤◌, ◌<◌, ◌++◌, List, [], Some, None, Result, length}
+use Rattle.dsv_base.specs.declared.prop.Prop.{Prop}
+use Rattle.rev_nodes.specs.declared.kind.Kind.{Kind}
+use Rattle.rev_nodes.specs.declared.change.Change.{Change}
+use Rattle.rev_nodes.specs.declared.unfit.Unfit.{Unfit}
+use Rattle.rev_nodes.specs.Trees.{Tree}
+use Rattle.rev_nodes.specs.Changes.{unfit, apply}
+use Rattle.rev_nodes.specs.Fitting.{Fits}
+use Rattle.node_table.specs.declared.cell.Cell.{Cell}
+use Rattle.node_table.specs.Tables.{cell_at, IsSound}
+use Rattle.node_table.specs.Shown.{IsShown}
+
+-- a file's cell with another text
+abbrev pub cell_with_text : ℕ → List ℕ → Cell → Cell
+cell_with_text r text cell = record cell { node = record cell.node { text = text; created = r } }
+
+-- a cell with other properties
+abbrev pub cell_with_props : ℕ → List Prop → Cell → Cell
+cell_with_props r props cell = record cell { node = record cell.node { props = props; created = r } }
+
+-- a cell that begins in this revision, by no copy, with nothing in it
+abbrev pub new_cell : ℕ → Kind → List ℕ → Cell
+new_cell r kind text = record { node = record { kind = kind; props = []; text = text; created = r }; line = record { since = r; source = None }; entries = [] }
+
+-- the table has grown by at most 65 cells, and the new root shows this tree
+pub record IsStep (r : ℕ) (old new : List Cell) (made : ℕ) (tree : Tree) : Type 0 where
+  pub more : List Cell
+  pub grown : new ≡ old ++ more
+  pub few : length more ≤ 65
+  pub sound : IsSound new
+  pub within : made < length new
+  pub created : (cell_at new made).node.created ≡ r
+  pub shown : IsShown new made tree
+
+-- a root of the table that a change of this revision can begin at
+pub record IsBase (r : ℕ) (cells : List Cell) (root : ℕ) : Type 0 where
+  pub sound : IsSound cells
+  pub within : root < length cells
+  pub young : (cell_at cells root).node.created ≤ r
+
+-- a change that copies nothing fits the tree that the root shows, and the new root shows what it makes of it; or this is why it doesn't fit
+abbrev pub Does : ℕ → Change → List Cell → List Cell → ℕ → Result ℕ Unfit → Type 0
+Does r change old new root result = (tree : Tree) → IsShown old root tree → Fits (λ made. IsStep r old new made (apply change [] tree r)) (unfit change [] tree) result

@@ -1,0 +1,16 @@
+//! One growing table of nodes that the trees of a repository share.
+#![tactic(auto)]
+
+mod cell;
+mod copies;
+mod directories;
+mod entry_lists;
+mod hanging;
+mod names;
+mod new_cells;
+mod node_props;
+mod places;
+mod props;
+mod puts;
+mod reading;
+mod rebuilding;
