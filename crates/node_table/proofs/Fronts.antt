@@ -18,7 +18,7 @@ joined [] = []
 joined (n ∷ []) = n
 joined (n ∷ m ∷ ms) = n ++ 47 ∷ joined (m ∷ ms)
 
-joined-components : (n : Name) (ns : List Name) → are_names (n ∷ ns) ≡ true → components (joined (n ∷ ns)) ≡ n ∷ ns
+pub joined-components : (n : Name) (ns : List Name) → are_names (n ∷ ns) ≡ true → components (joined (n ∷ ns)) ≡ n ∷ ns
 joined-components n [] h = components-one n (component_slash n (and_parts (is_component n) true h).0)
 joined-components n (m ∷ ms) h =
     let p = and_parts (is_component n) (are_names (m ∷ ms)) h in
@@ -30,7 +30,7 @@ path-joined path n (m ∷ ms) h =
     let p = and_parts (is_component n) (are_names (m ∷ ms)) h in
     path-joined (join_text path n) m ms p.1 ∙ ap (λ f. f ++ 47 ∷ joined (m ∷ ms)) (front-join path n p.0 ∙ join-front path n) ∙ append_assoc (front_of path) (47 ∷ n) (47 ∷ joined (m ∷ ms))
 
-some-joined : (n : Name) (ns : List Name) → are_names (n ∷ ns) ≡ true → joined (n ∷ ns) ≡ [] → ⊥
+pub some-joined : (n : Name) (ns : List Name) → are_names (n ∷ ns) ≡ true → joined (n ∷ ns) ≡ [] → ⊥
 some-joined [] [] h e = let p = component_some [] (and_parts (is_component []) true h).0 in cc p
 some-joined (b ∷ bs) [] h e = cc e
 some-joined [] (m ∷ ms) h e = cc e

@@ -10,3 +10,8 @@ pub mod Hung
 pub mod Hangs
 pub mod Stepping
 pub mod OtherSteps
+pub mod Copied
+pub mod Grafts
+pub mod Limited
+pub mod Short
+pub mod CopySteps

@@ -46,11 +46,12 @@ pub record AreNamesOf (text : List ℕ) : Type 0 where
   pub names : are_names (names_in text) ≡ true
   pub path : path_at root_text (names_in text) ≡ text
   pub few : length (names_in text) ≤ 64
+  pub short : length text ≤ 1024
 
 pub names_of_path : (text : List ℕ) → is_path text ≡ true → AreNamesOf text
 unfolding is_path
 names_of_path [] h = absurd (cc)
-names_of_path (b ∷ []) h = record { names = refl; path = ap (λ (c : ℕ). c ∷ []) (sym (eqb-true b 47 (and_parts (is_slash b) true h).0)); few = omega arith }
+names_of_path (b ∷ []) h = record { names = refl; path = ap (λ (c : ℕ). c ∷ []) (sym (eqb-true b 47 (and_parts (is_slash b) true h).0)); few = omega arith; short = omega arith }
 names_of_path (b ∷ c ∷ rest) h =
     let slash : b ≡ 47 = eqb-true b 47 (and_parts (is_slash b) _ h).0 in
     let below : is_below_root (c ∷ rest) ≡ true = (and_parts (nat_le (length (c ∷ rest)) 1023) (is_below_root (c ∷ rest)) (other_way (nat_eq (length (c ∷ rest)) 0) _ (grind (arith, nat_tests)) (and_parts (is_slash b) _ h).1)).1 in
@@ -59,6 +60,7 @@ names_of_path (b ∷ c ∷ rest) h =
       names = parts.1;
       path = at_names (c ∷ rest) (split_some (c ∷ rest)) parts.1 ∙ ap (λ (s : ℕ). s ∷ c ∷ rest) (sym slash);
       few = leb-true _ _ parts.0;
+      short = let l = leb-true (length (c ∷ rest)) 1023 (and_parts (nat_le (length (c ∷ rest)) 1023) (is_below_root (c ∷ rest)) (other_way (nat_eq (length (c ∷ rest)) 0) _ (grind (arith, nat_tests)) (and_parts (is_slash b) _ h).1)).0 in omega (arith, l);
     }
   where
     other_way : (a b : Bool) → a ≡ false → (a || b) ≡ true → b ≡ true

@@ -1,12 +1,14 @@
 -- What a change adds to the table.
-use Rattle.std.specs.Prelude.{ℕ, ◌≡◌, ◌≤◌, ◌<◌, ◌++◌, List, [], Some, None, Result, length}
+use Rattle.std.specs.Prelude.{ℕ, true, ◌≡◌, ◌≤◌, ◌<◌, ◌++◌, List, [], Some, None, Result, length}
 use Rattle.dsv_base.specs.declared.prop.Prop.{Prop}
 use Rattle.rev_nodes.specs.declared.kind.Kind.{Kind}
 use Rattle.rev_nodes.specs.declared.change.Change.{Change}
 use Rattle.rev_nodes.specs.declared.unfit.Unfit.{Unfit}
-use Rattle.rev_nodes.specs.Trees.{Tree}
+use Rattle.rev_nodes.specs.Trees.{Tree, tree_at}
 use Rattle.rev_nodes.specs.Changes.{unfit, apply}
-use Rattle.rev_nodes.specs.Fitting.{Fits}
+use Rattle.rev_nodes.specs.Fitting.{Fits, in_order}
+use Rattle.rev_nodes.specs.Formed.{IsFormed}
+use Rattle.rev_nodes.specs.declared.change.Change.TheVariants.{Copy}
 use Rattle.node_table.specs.declared.cell.Cell.{Cell}
 use Rattle.node_table.specs.Tables.{cell_at, IsSound}
 use Rattle.node_table.specs.Shown.{IsShown}
@@ -18,6 +20,10 @@ cell_with_text r text cell = record cell { node = record cell.node { text = text
 -- a cell with other properties
 abbrev pub cell_with_props : ℕ → List Prop → Cell → Cell
 cell_with_props r props cell = record cell { node = record cell.node { props = props; created = r } }
+
+-- the cell of a copy of a node of this revision
+abbrev pub cell_copied : ℕ → List ℕ → ℕ → Cell → Cell
+cell_copied r source rev cell = record { node = record cell.node { created = r }; line = record { since = r; source = Some (source, rev) }; entries = cell.entries }
 
 -- a cell that begins in this revision, by no copy, with nothing in it
 abbrev pub new_cell : ℕ → Kind → List ℕ → Cell
@@ -42,3 +48,17 @@ pub record IsBase (r : ℕ) (cells : List Cell) (root : ℕ) : Type 0 where
 -- a change that copies nothing fits the tree that the root shows, and the new root shows what it makes of it; or this is why it doesn't fit
 abbrev pub Does : ℕ → Change → List Cell → List Cell → ℕ → Result ℕ Unfit → Type 0
 Does r change old new root result = (tree : Tree) → IsShown old root tree → Fits (λ made. IsStep r old new made (apply change [] tree r)) (unfit change [] tree) result
+
+-- the trees that are copied from
+pub record AreSources (trees : List Tree) : Type 0 where
+  pub sorted : (rev : ℕ) → in_order (tree_at trees rev) ≡ true
+  pub formed : (rev : ℕ) → rev < length trees → IsFormed (tree_at trees rev)
+
+-- a root whose tree is of an earlier revision
+pub record IsSource (r : ℕ) (cells : List Cell) (from : ℕ) : Type 0 where
+  pub within : from < length cells
+  pub young : (cell_at cells from).node.created < r
+
+-- the same for a copy, whose source stands in the tree that the other root shows
+abbrev pub Copies : ℕ → List ℕ → ℕ → List ℕ → List Cell → List Cell → ℕ → ℕ → Result ℕ Unfit → Type 0
+Copies r source rev path old new root from result = (trees : List Tree) (tree : Tree) → AreSources trees → IsShown old root tree → IsShown old from (tree_at trees rev) → rev < length trees → Fits (λ made. IsStep r old new made (apply (Copy source rev path) trees tree r)) (unfit (Copy source rev path) trees tree) result

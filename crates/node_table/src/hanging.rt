@@ -3,7 +3,8 @@ ghost use Rattle.dsv_base.specs.Paths.{is_path};
 ghost use Rattle.node_table.specs.Ways.{names_in};
 ghost use Rattle.node_table.specs.Tables.{cell_at, reach, IsCell, IsSound};
 ghost use Rattle.node_table.specs.Rebuilt.{has_way, IsHung, IsLonger, IsMade, IsFor, IsNew};
-ghost use Rattle.node_table.specs.Shown.{Replaces, Adds};
+ghost use Rattle.node_table.specs.Steps.{cell_copied};
+ghost use Rattle.node_table.specs.Shown.{Replaces, Adds, Grafts};
 
 use crate::cell::Cell;
 use crate::places::below_root;
@@ -78,6 +79,33 @@ pub fn add(
     requires new { IsNew rev cell }
     ensures made { IfOk result (λ made. IsMade rev cells.old.items cells.new.items made (length (names_in path.now) + 1)) }
     ensures shows { IfOk result (λ made. Adds rev cells.old.items cells.new.items root made path.now cell) }
+    ensures longer { IsLonger cells.old.items cells.new.items }
+{
+    hang(alloc, cells, root, path, cell, rev)
+}
+
+/// Hangs up the cell of a copy at a path where nothing stands.
+pub fn graft(
+    alloc: Global,
+    cells: &mut Vec<Cell>,
+    root: NodeId,
+    path: &Path,
+    id: NodeId,
+    source: &Path,
+    source_rev: Rev,
+    cell: Cell,
+    rev: Rev,
+) -> Result<NodeId, NoMemory>
+    requires sound { IsSound cells.old.items }
+    requires within { root < length cells.old.items }
+    requires young { (cell_at cells.old.items root).node.created ≤ rev }
+    requires absent { reach cells.old.items (Some root) (names_in path.now) ≡ None }
+    requires way { has_way cells.old.items (Some root) (names_in path.now) ≡ true }
+    requires id { id < length cells.old.items }
+    requires earlier { (cell_at cells.old.items id).node.created < rev }
+    requires copied { cell ≡ cell_copied rev source.now source_rev (cell_at cells.old.items id) }
+    ensures made { IfOk result (λ made. IsMade rev cells.old.items cells.new.items made (length (names_in path.now) + 1)) }
+    ensures shows { IfOk result (λ made. Grafts rev cells.old.items cells.new.items root made path.now source.now source_rev id) }
     ensures longer { IsLonger cells.old.items cells.new.items }
 {
     hang(alloc, cells, root, path, cell, rev)

@@ -3,9 +3,11 @@
 
 mod cell;
 mod copies;
+mod copying;
 mod directories;
 mod entry_lists;
 mod hanging;
+mod limits;
 mod names;
 mod new_cells;
 mod node_props;
