@@ -153,3 +153,6 @@ delete_done r old new root made id path first rest one there way_is b tree is =
         shown = record { shown = shown; formed = formed };
       },
     )
+
+pub deleted_made : (r : ℕ) (old new : List Cell) (root made : ℕ) (path rest : List Name) → path ≡ rest → IsRebuilt r old new root made None rest → IsMade r old new made (length path)
+deleted_made r old new root made path rest e b = subst (λ ws. IsMade r old new made (length ws)) (sym e) (record { grown = b.grown; sound = b.sound; within = b.within; created = b.created })

@@ -1,8 +1,8 @@
-ghost use Rattle.std.specs.Prelude.{◌≡◌, ◌<◌, ◌-◌, true, false, IfOk, IsTrue, Some, None, length};
+ghost use Rattle.std.specs.Prelude.{◌≡◌, ◌<◌, ◌-◌, true, false, IfOk, IsTrue, Some, None, length, ◌+◌};
 ghost use Rattle.dsv_base.specs.Paths.{is_path};
 ghost use Rattle.node_table.specs.Ways.{names_in};
 ghost use Rattle.node_table.specs.Tables.{cell_at, reach, IsSound};
-ghost use Rattle.node_table.specs.Rebuilt.{IsLonger};
+ghost use Rattle.node_table.specs.Rebuilt.{IsLonger, IsMade};
 ghost use Rattle.node_table.specs.Limits.{AllFit, HasLong};
 ghost use Rattle.node_table.specs.Steps.{IsBase, IsSource, Copies, cell_copied};
 
@@ -64,6 +64,7 @@ pub fn copy(
 ) -> Result<NodeId, Unfit>
     requires base { IsBase rev cells.old.items root }
     requires from { IsSource rev cells.old.items from }
+    ensures made { IfOk result (λ made. IsMade rev cells.old.items cells.new.items made (length (names_in path.now) + 1)) }
     ensures says { Copies rev source.now source_rev path.now cells.old.items cells.new.items root from result }
     ensures longer { IsLonger cells.old.items cells.new.items }
 {
@@ -89,6 +90,7 @@ fn copy_of(
     requires from { IsSource rev cells.old.items from }
     requires source { IsTrue (is_path source.now) }
     requires there { reach cells.old.items (Some from) (names_in source.now) ≡ Some id }
+    ensures made { IfOk result (λ made. IsMade rev cells.old.items cells.new.items made (length (names_in path.now) + 1)) }
     ensures says { Copies rev source.now source_rev path.now cells.old.items cells.new.items root from result }
     ensures longer { IsLonger cells.old.items cells.new.items }
 {
@@ -118,6 +120,7 @@ fn copy_to(
     requires absent { reach cells.old.items (Some root) (names_in path.now) ≡ None }
     requires within { id < length cells.old.items }
     requires earlier { (cell_at cells.old.items id).node.created < rev }
+    ensures made { IfOk result (λ made. IsMade rev cells.old.items cells.new.items made (length (names_in path.now) + 1)) }
     ensures says { Copies rev source.now source_rev path.now cells.old.items cells.new.items root from result }
     ensures longer { IsLonger cells.old.items cells.new.items }
 {

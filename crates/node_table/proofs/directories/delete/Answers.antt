@@ -11,7 +11,7 @@ use Rattle.node_table.specs.Steps.{cell_with_props, new_cell}
 use Rattle.node_table.proofs.Growing.{reach_within}
 use Rattle.node_table.proofs.PathNames.{names_of_path, split_some}
 use Rattle.node_table.proofs.Hangs.{way_reached}
-use Rattle.node_table.proofs.OtherSteps.{delete_absent, delete_root, delete_done}
+use Rattle.node_table.proofs.OtherSteps.{delete_absent, delete_root, delete_done, deleted_made}
 use Rattle.node_table.proofs.directories.delete.Goals as goal
 
 pub place_at-requires-clause-sound : goal.place_at-requires-clause-sound
@@ -41,3 +41,6 @@ returns-in_ok-rebuild-in-Some-below_root-clause-says c =
     let s = split_some c.in-Some-below_root.rest.now in
     delete_done c.args.rev c.args.cells.now.items c.rebuild.new.cells.items c.args.root c.in_ok-rebuild-in-Some-below_root.field-0 c.in-Some._id c.args.path.now s.first s.rest c.place_at.ensures.path there (ap names_in (sym c.text.ensures.text) ∙ c.in-Some-below_root.ensures ∙ s.is)
     (subst (λ w. IsRebuilt c.args.rev c.args.cells.now.items c.rebuild.new.cells.items c.args.root c.in_ok-rebuild-in-Some-below_root.field-0 None w) (sym (ap names_in (sym c.text.ensures.text) ∙ c.in-Some-below_root.ensures)) c.in_ok-rebuild-in-Some-below_root.ensures.rebuilt)
+
+pub returns-in_ok-rebuild-in-Some-below_root-clause-made : goal.returns-in_ok-rebuild-in-Some-below_root-clause-made
+returns-in_ok-rebuild-in-Some-below_root-clause-made c = deleted_made c.args.rev c.args.cells.now.items c.rebuild.new.cells.items c.args.root c.in_ok-rebuild-in-Some-below_root.field-0 (names_in c.args.path.now) (components c.in-Some-below_root.rest.now) (ap names_in (sym c.text.ensures.text) ∙ c.in-Some-below_root.ensures) c.in_ok-rebuild-in-Some-below_root.ensures.rebuilt
