@@ -1,8 +1,9 @@
 -- A copy is a step.
-use Rattle.std.proofs.Common.{◌≡◌, ℕ, ◌+◌, ◌-◌, ◌<◌, ◌≤◌, Bool, true, false, List, [], ◌∷◌, ◌++◌, Option, None, Some, length, refl, sym, ap, subst, ◌∙◌, arith}
+use Rattle.std.proofs.Common.{Result, Err, ◌≡◌, ℕ, ◌+◌, ◌-◌, ◌<◌, ◌≤◌, Bool, true, false, List, [], ◌∷◌, ◌++◌, Option, None, Some, length, refl, sym, ap, subst, ◌∙◌, arith}
 use Rattle.std.specs.Prelude.{is_some, if◌then◌else◌}
 use Rattle.std.specs.Str.{bytes_eq}
 use Rattle.dsv_base.specs.Paths.{is_path, root_text}
+use Rattle.rev_nodes.specs.declared.change.Change.{Change}
 use Rattle.rev_nodes.specs.declared.change.Change.TheVariants as changes
 use Rattle.rev_nodes.specs.declared.unfit.Unfit.{Unfit}
 use Rattle.rev_nodes.specs.declared.unfit.Unfit.TheVariants as whys
@@ -17,7 +18,7 @@ use Rattle.node_table.specs.Tables.{cell_at, reach, IsSound}
 use Rattle.node_table.specs.Rebuilt.{has_way, IsMade}
 use Rattle.node_table.specs.Shown.{IsShown, ShowsAll, Grafts}
 use Rattle.node_table.specs.Limits.{AllFit, HasLong}
-use Rattle.node_table.specs.Steps.{IsStep, IsBase, IsSource, AreSources}
+use Rattle.node_table.specs.Steps.{IsStep, IsBase, IsSource, AreSources, Does, Copies, Changes}
 use Rattle.node_table.proofs.PathNames.{names_of_path}
 use Rattle.node_table.proofs.Fronts.{not-root}
 use Rattle.node_table.proofs.Growing.{reach_within}
@@ -92,3 +93,37 @@ module _ (r rev : ℕ) (source path : List ℕ) (old : List Cell) (root from : �
                   (grafts tree from_tree from is.shown from_is.shown there (sources.sorted rev) from_is.formed source_one (fits_by (names_in path) refl r all))
                   (formed_change trees tree r is.formed sources.sorted sources.formed (changes.Copy source rev path) one fits),
             )
+
+-- nothing stands in a tree that isn't there
+pub no_source : (source path : List ℕ) (rev : ℕ) (trees : List Tree) (tree : Tree) → tree_at trees rev ≡ [] → unfit (changes.Copy source rev path) trees tree ≡ Some whys.NoNode
+unfolding unfit
+no_source source path rev trees tree none = ap (λ (t : Tree). if is_some (at source t) then unfit_copy path (copied source rev path 0 t) tree else Some whys.NoNode) none
+
+-- ---- any change
+
+module _ (r : ℕ) (old new : List Cell) (root : ℕ) (from : Option ℕ) (result : Result ℕ Unfit) (change : Change) where
+  pub put_changes : (path text : List ℕ) → change ≡ changes.Put path text → Does r (changes.Put path text) old new root result → Changes r change old new root from result
+  unfolding unfit apply
+  put_changes path text e d = subst (λ ch. Changes r ch old new root from result) (sym e) (λ trees tree sources is has. d tree is)
+
+  pub set_changes : (path name value : List ℕ) → change ≡ changes.SetProp path name value → Does r (changes.SetProp path name value) old new root result → Changes r change old new root from result
+  unfolding unfit apply
+  set_changes path name value e d = subst (λ ch. Changes r ch old new root from result) (sym e) (λ trees tree sources is has. d tree is)
+
+  pub del_changes : (path name : List ℕ) → change ≡ changes.DelProp path name → Does r (changes.DelProp path name) old new root result → Changes r change old new root from result
+  unfolding unfit apply
+  del_changes path name e d = subst (λ ch. Changes r ch old new root from result) (sym e) (λ trees tree sources is has. d tree is)
+
+  pub mkdir_changes : (path : List ℕ) → change ≡ changes.Mkdir path → Does r (changes.Mkdir path) old new root result → Changes r change old new root from result
+  unfolding unfit apply
+  mkdir_changes path e d = subst (λ ch. Changes r ch old new root from result) (sym e) (λ trees tree sources is has. d tree is)
+
+  pub delete_changes : (path : List ℕ) → change ≡ changes.Delete path → Does r (changes.Delete path) old new root result → Changes r change old new root from result
+  unfolding unfit apply
+  delete_changes path e d = subst (λ ch. Changes r ch old new root from result) (sym e) (λ trees tree sources is has. d tree is)
+
+  pub copy_changes : (source : List ℕ) (rev : ℕ) (path : List ℕ) (id : ℕ) → change ≡ changes.Copy source rev path → from ≡ Some id → Copies r source rev path old new root id result → Changes r change old new root from result
+  copy_changes source rev path id e f d = subst (λ ch. Changes r ch old new root from result) (sym e) (subst (λ o. Changes r (changes.Copy source rev path) old new root o result) (sym f) (λ trees tree sources is has. d trees tree sources is has.0 has.1))
+
+  pub no_source_changes : (source : List ℕ) (rev : ℕ) (path : List ℕ) → change ≡ changes.Copy source rev path → from ≡ None → result ≡ Err whys.NoNode → Changes r change old new root from result
+  no_source_changes source rev path e f is_err = subst (λ ch. Changes r ch old new root from result) (sym e) (subst (λ o. Changes r (changes.Copy source rev path) old new root o result) (sym f) (subst (λ res. Changes r (changes.Copy source rev path) old new root None res) (sym is_err) (λ trees tree sources is has. no_source source path rev trees tree has)))

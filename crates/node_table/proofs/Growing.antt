@@ -1,5 +1,5 @@
 -- What a growing table shows stays as it was.
-use Rattle.std.proofs.Common.{◌≡◌, ℕ, zero, suc, ◌+◌, ◌<◌, ◌≤◌, Bool, true, false, List, [], ◌∷◌, ◌++◌, Option, None, Some, length, map, refl, sym, ap, subst, ◌∙◌, arith, inl, inr, length-append}
+use Rattle.std.proofs.Common.{◌≡◌, ℕ, zero, suc, ◌+◌, ◌<◌, ◌≤◌, Bool, true, false, List, [], ◌∷◌, ◌++◌, Option, None, Some, length, map, take, refl, sym, ap, subst, ◌∙◌, arith, inl, inr, length-append}
 use Rattle.std.specs.Prelude.{IsTrue, nat_le}
 use Rattle.std.specs.Option.{option_map, option_and_then}
 use Rattle.std.proofs.lemmas.Bool.{cases_lt}
@@ -116,3 +116,11 @@ sound-more cells cell sound new id = elim (cases_lt id (length cells)) [
     | inr low ↦ subst (IsCell (cells ++ cell ∷ [])) (let s : length cells ≡ id = omega (arith, high, low) in s) new
   ]
 ]
+
+take_front : (cells more : List Cell) → take (length cells) (cells ++ more) ≡ cells
+take_front [] more = refl
+take_front (x ∷ cells) more = ap (λ xs. x ∷ xs) (take_front cells more)
+
+-- what was added is taken away again
+pub taken_back : (cells new more : List Cell) (count : ℕ) → new ≡ cells ++ more → count ≡ length cells → take count new ≡ cells
+taken_back cells new more count new_is count_is = ap (λ n. take n new) count_is ∙ ap (take (length cells)) new_is ∙ take_front cells more

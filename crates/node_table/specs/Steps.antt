@@ -1,5 +1,5 @@
 -- What a change adds to the table.
-use Rattle.std.specs.Prelude.{ℕ, true, ◌≡◌, ◌≤◌, ◌<◌, ◌++◌, List, [], Some, None, Result, length}
+use Rattle.std.specs.Prelude.{ℕ, true, ◌≡◌, ◌≤◌, ◌<◌, ◌++◌, ◌+◌, List, [], Option, Some, None, Result, length}
 use Rattle.dsv_base.specs.declared.prop.Prop.{Prop}
 use Rattle.rev_nodes.specs.declared.kind.Kind.{Kind}
 use Rattle.rev_nodes.specs.declared.change.Change.{Change}
@@ -8,8 +8,9 @@ use Rattle.rev_nodes.specs.Trees.{Tree, tree_at}
 use Rattle.rev_nodes.specs.Changes.{unfit, apply}
 use Rattle.rev_nodes.specs.Fitting.{Fits, in_order}
 use Rattle.rev_nodes.specs.Formed.{IsFormed}
-use Rattle.rev_nodes.specs.declared.change.Change.TheVariants.{Copy}
+use Rattle.rev_nodes.specs.declared.change.Change.TheVariants.{Put, SetProp, DelProp, Mkdir, Delete, Copy}
 use Rattle.node_table.specs.declared.cell.Cell.{Cell}
+use Rattle.node_table.specs.Ways.{names_in}
 use Rattle.node_table.specs.Tables.{cell_at, IsSound}
 use Rattle.node_table.specs.Shown.{IsShown}
 
@@ -62,3 +63,29 @@ pub record IsSource (r : ℕ) (cells : List Cell) (from : ℕ) : Type 0 where
 -- the same for a copy, whose source stands in the tree that the other root shows
 abbrev pub Copies : ℕ → List ℕ → ℕ → List ℕ → List Cell → List Cell → ℕ → ℕ → Result ℕ Unfit → Type 0
 Copies r source rev path old new root from result = (trees : List Tree) (tree : Tree) → AreSources trees → IsShown old root tree → IsShown old from (tree_at trees rev) → rev < length trees → Fits (λ made. IsStep r old new made (apply (Copy source rev path) trees tree r)) (unfit (Copy source rev path) trees tree) result
+
+-- the tree that a copy is taken from is shown by this root, or there is none
+abbrev pub IsFrom : List Cell → Option ℕ → ℕ → List Tree → Type 0
+IsFrom cells None rev trees = tree_at trees rev ≡ []
+IsFrom cells (Some id) rev trees = IsShown cells id (tree_at trees rev) × (rev < length trees)
+
+abbrev pub HasSource : List Cell → Option ℕ → Change → List Tree → Type 0
+HasSource cells from (Put path text) trees = Unit {0}
+HasSource cells from (SetProp path name value) trees = Unit {0}
+HasSource cells from (DelProp path name) trees = Unit {0}
+HasSource cells from (Mkdir path) trees = Unit {0}
+HasSource cells from (Delete path) trees = Unit {0}
+HasSource cells from (Copy source rev path) trees = IsFrom cells from rev trees
+
+-- a change fits the tree that the root shows, and the new root shows what it makes of it; or this is why it doesn't fit
+abbrev pub Changes : ℕ → Change → List Cell → List Cell → ℕ → Option ℕ → Result ℕ Unfit → Type 0
+Changes r change old new root from result = (trees : List Tree) (tree : Tree) → AreSources trees → IsShown old root tree → HasSource old from change trees → Fits (λ made. IsStep r old new made (apply change trees tree r)) (unfit change trees tree) result
+
+-- the cells that a change adds: one for each node from the root to its place, whatever it copies
+abbrev pub added : Change → ℕ
+added (Put path text) = length (names_in path) + 1
+added (SetProp path name value) = length (names_in path) + 1
+added (DelProp path name) = length (names_in path) + 1
+added (Mkdir path) = length (names_in path) + 1
+added (Delete path) = length (names_in path)
+added (Copy source rev path) = length (names_in path) + 1

@@ -2,6 +2,7 @@
 #![tactic(auto)]
 
 mod cell;
+mod changing;
 mod copies;
 mod copying;
 mod directories;
@@ -16,3 +17,6 @@ mod props;
 mod puts;
 mod reading;
 mod rebuilding;
+mod table;
+
+pub use table::Table;
