@@ -99,7 +99,7 @@ module _ (cells : List Cell) (sound : IsSound cells) where
       since = subst (λ (x : Cell). x.line.since ≤ x.node.created) (sym (cell_at-kept cells more id h)) c.since;
     }
 
-no_cell_sound : (cells : List Cell) (id : ℕ) → cell_at cells id ≡ no_cell → IsCell cells id
+pub no_cell_sound : (cells : List Cell) (id : ℕ) → cell_at cells id ≡ no_cell → IsCell cells id
 no_cell_sound cells id e = record {
   sorted = subst (λ (x : Cell). IsTrue (is_sorted (slice_cmp nat_cmp) (map pair x.entries))) (sym e) refl;
   children = λ n i f. absurd (let g = sym (ap (λ (x : Cell). child n x.entries) e) ∙ f in cc g);

@@ -15,3 +15,4 @@ pub mod Grafts
 pub mod Limited
 pub mod Short
 pub mod CopySteps
+pub mod Roots

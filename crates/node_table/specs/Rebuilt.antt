@@ -5,7 +5,7 @@ use Rattle.std.specs.Str.{bytes_eq}
 use Rattle.rev_nodes.specs.declared.line.Line.{Line}
 use Rattle.rev_nodes.specs.Trees.{TreeNode, is_dir_kind}
 use Rattle.node_table.specs.declared.cell.Cell.{Cell}
-use Rattle.node_table.specs.Ways.{Name}
+use Rattle.node_table.specs.Ways.{Name, names_in}
 use Rattle.node_table.specs.Tables.{Spot, cell_at, child_in, spot_in, step, seen, entries_after, IsSound}
 
 -- a node as a change at or below it leaves it
@@ -82,6 +82,10 @@ pub record IsMade (r : ℕ) (old new : List Cell) (made count : ℕ) : Type 0 wh
   pub sound : IsSound new
   pub within : made < length new
   pub created : (cell_at new made).node.created ≡ r
+
+-- the same where one cell is made for each node from the root to a path
+abbrev pub IsAdded : ℕ → List Cell → List Cell → ℕ → List ℕ → Type 0
+IsAdded r old new made path = IsMade r old new made (length (names_in path) + 1)
 
 -- a cell that can stand for another: it has its kind, its line and its entries
 pub record IsFor (r : ℕ) (other cell : Cell) : Type 0 where

@@ -69,6 +69,7 @@ abbrev pub IsFrom : List Cell → Option ℕ → ℕ → List Tree → Type 0
 IsFrom cells None rev trees = tree_at trees rev ≡ []
 IsFrom cells (Some id) rev trees = IsShown cells id (tree_at trees rev) × (rev < length trees)
 
+-- the change is no copy, or the tree of its source is shown
 abbrev pub HasSource : List Cell → Option ℕ → Change → List Tree → Type 0
 HasSource cells from (Put path text) trees = Unit {0}
 HasSource cells from (SetProp path name value) trees = Unit {0}

@@ -2,7 +2,7 @@ ghost use Rattle.std.specs.Prelude.{◌≡◌, ◌<◌, ◌-◌, true, false, If
 ghost use Rattle.dsv_base.specs.Paths.{is_path};
 ghost use Rattle.node_table.specs.Ways.{names_in};
 ghost use Rattle.node_table.specs.Tables.{cell_at, reach, IsSound};
-ghost use Rattle.node_table.specs.Rebuilt.{IsLonger, IsMade};
+ghost use Rattle.node_table.specs.Rebuilt.{IsLonger, IsAdded};
 ghost use Rattle.node_table.specs.Limits.{AllFit, HasLong};
 ghost use Rattle.node_table.specs.Steps.{IsBase, IsSource, Copies, cell_copied};
 
@@ -64,7 +64,7 @@ pub fn copy(
 ) -> Result<NodeId, Unfit>
     requires base { IsBase rev cells.old.items root }
     requires from { IsSource rev cells.old.items from }
-    ensures made { IfOk result (λ made. IsMade rev cells.old.items cells.new.items made (length (names_in path.now) + 1)) }
+    ensures made { IfOk result (λ made. IsAdded rev cells.old.items cells.new.items made path.now) }
     ensures says { Copies rev source.now source_rev path.now cells.old.items cells.new.items root from result }
     ensures longer { IsLonger cells.old.items cells.new.items }
 {
@@ -90,7 +90,7 @@ fn copy_of(
     requires from { IsSource rev cells.old.items from }
     requires source { IsTrue (is_path source.now) }
     requires there { reach cells.old.items (Some from) (names_in source.now) ≡ Some id }
-    ensures made { IfOk result (λ made. IsMade rev cells.old.items cells.new.items made (length (names_in path.now) + 1)) }
+    ensures made { IfOk result (λ made. IsAdded rev cells.old.items cells.new.items made path.now) }
     ensures says { Copies rev source.now source_rev path.now cells.old.items cells.new.items root from result }
     ensures longer { IsLonger cells.old.items cells.new.items }
 {
@@ -120,7 +120,7 @@ fn copy_to(
     requires absent { reach cells.old.items (Some root) (names_in path.now) ≡ None }
     requires within { id < length cells.old.items }
     requires earlier { (cell_at cells.old.items id).node.created < rev }
-    ensures made { IfOk result (λ made. IsMade rev cells.old.items cells.new.items made (length (names_in path.now) + 1)) }
+    ensures made { IfOk result (λ made. IsAdded rev cells.old.items cells.new.items made path.now) }
     ensures says { Copies rev source.now source_rev path.now cells.old.items cells.new.items root from result }
     ensures longer { IsLonger cells.old.items cells.new.items }
 {

@@ -1,7 +1,7 @@
 ghost use Rattle.std.specs.Prelude.{◌≡◌, ◌+◌, IfOk, length};
 ghost use Rattle.rev_nodes.specs.declared.change.Change.TheVariants as changes;
 ghost use Rattle.node_table.specs.Ways.{names_in};
-ghost use Rattle.node_table.specs.Rebuilt.{IsLonger, IsMade};
+ghost use Rattle.node_table.specs.Rebuilt.{IsLonger, IsMade, IsAdded};
 ghost use Rattle.node_table.specs.Steps.{IsBase, Does};
 
 use crate::cell::Cell;
@@ -22,7 +22,7 @@ pub fn mkdir(
     rev: Rev,
 ) -> Result<NodeId, Unfit>
     requires base { IsBase rev cells.old.items root }
-    ensures made { IfOk result (λ made. IsMade rev cells.old.items cells.new.items made (length (names_in path.now) + 1)) }
+    ensures made { IfOk result (λ made. IsAdded rev cells.old.items cells.new.items made path.now) }
     ensures says { Does rev (changes.Mkdir path.now) cells.old.items cells.new.items root result }
     ensures longer { IsLonger cells.old.items cells.new.items }
 {

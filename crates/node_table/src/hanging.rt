@@ -2,7 +2,7 @@ ghost use Rattle.std.specs.Prelude.{◌≡◌, ◌≤◌, ◌<◌, ◌+◌, ◌+
 ghost use Rattle.dsv_base.specs.Paths.{is_path};
 ghost use Rattle.node_table.specs.Ways.{names_in};
 ghost use Rattle.node_table.specs.Tables.{cell_at, reach, IsCell, IsSound};
-ghost use Rattle.node_table.specs.Rebuilt.{has_way, IsHung, IsLonger, IsMade, IsFor, IsNew};
+ghost use Rattle.node_table.specs.Rebuilt.{has_way, IsHung, IsLonger, IsAdded, IsFor, IsNew};
 ghost use Rattle.node_table.specs.Steps.{cell_copied};
 ghost use Rattle.node_table.specs.Shown.{Replaces, Adds, Grafts};
 
@@ -55,7 +55,7 @@ pub fn replace(
     requires young { (cell_at cells.old.items root).node.created ≤ rev }
     requires there { reach cells.old.items (Some root) (names_in path.now) ≡ Some id }
     requires alike { IsFor rev (cell_at cells.old.items id) cell }
-    ensures made { IfOk result (λ made. IsMade rev cells.old.items cells.new.items made (length (names_in path.now) + 1)) }
+    ensures made { IfOk result (λ made. IsAdded rev cells.old.items cells.new.items made path.now) }
     ensures shows { IfOk result (λ made. Replaces rev cells.old.items cells.new.items root made path.now cell) }
     ensures longer { IsLonger cells.old.items cells.new.items }
 {
@@ -77,7 +77,7 @@ pub fn add(
     requires absent { reach cells.old.items (Some root) (names_in path.now) ≡ None }
     requires way { has_way cells.old.items (Some root) (names_in path.now) ≡ true }
     requires new { IsNew rev cell }
-    ensures made { IfOk result (λ made. IsMade rev cells.old.items cells.new.items made (length (names_in path.now) + 1)) }
+    ensures made { IfOk result (λ made. IsAdded rev cells.old.items cells.new.items made path.now) }
     ensures shows { IfOk result (λ made. Adds rev cells.old.items cells.new.items root made path.now cell) }
     ensures longer { IsLonger cells.old.items cells.new.items }
 {
@@ -104,7 +104,7 @@ pub fn graft(
     requires id { id < length cells.old.items }
     requires earlier { (cell_at cells.old.items id).node.created < rev }
     requires copied { cell ≡ cell_copied rev source.now source_rev (cell_at cells.old.items id) }
-    ensures made { IfOk result (λ made. IsMade rev cells.old.items cells.new.items made (length (names_in path.now) + 1)) }
+    ensures made { IfOk result (λ made. IsAdded rev cells.old.items cells.new.items made path.now) }
     ensures shows { IfOk result (λ made. Grafts rev cells.old.items cells.new.items root made path.now source.now source_rev id) }
     ensures longer { IsLonger cells.old.items cells.new.items }
 {

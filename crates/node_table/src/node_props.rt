@@ -1,7 +1,7 @@
 ghost use Rattle.std.specs.Prelude.{◌≡◌, ◌+◌, IfOk, length};
 ghost use Rattle.rev_nodes.specs.declared.change.Change.TheVariants as changes;
 ghost use Rattle.node_table.specs.Ways.{names_in};
-ghost use Rattle.node_table.specs.Rebuilt.{IsLonger, IsMade};
+ghost use Rattle.node_table.specs.Rebuilt.{IsLonger, IsAdded};
 ghost use Rattle.node_table.specs.Steps.{IsBase, Does};
 
 use crate::cell::Cell;
@@ -25,7 +25,7 @@ pub fn set_prop(
     rev: Rev,
 ) -> Result<NodeId, Unfit>
     requires base { IsBase rev cells.old.items root }
-    ensures made { IfOk result (λ made. IsMade rev cells.old.items cells.new.items made (length (names_in path.now) + 1)) }
+    ensures made { IfOk result (λ made. IsAdded rev cells.old.items cells.new.items made path.now) }
     ensures says { Does rev (changes.SetProp path.now name.now value.now) cells.old.items cells.new.items root result }
     ensures longer { IsLonger cells.old.items cells.new.items }
 {
@@ -49,7 +49,7 @@ pub fn del_prop(
     rev: Rev,
 ) -> Result<NodeId, Unfit>
     requires base { IsBase rev cells.old.items root }
-    ensures made { IfOk result (λ made. IsMade rev cells.old.items cells.new.items made (length (names_in path.now) + 1)) }
+    ensures made { IfOk result (λ made. IsAdded rev cells.old.items cells.new.items made path.now) }
     ensures says { Does rev (changes.DelProp path.now name.now) cells.old.items cells.new.items root result }
     ensures longer { IsLonger cells.old.items cells.new.items }
 {

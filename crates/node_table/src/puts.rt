@@ -3,7 +3,7 @@ ghost use Rattle.dsv_base.specs.Paths.{is_path};
 ghost use Rattle.rev_nodes.specs.declared.change.Change.TheVariants as changes;
 ghost use Rattle.node_table.specs.Ways.{names_in};
 ghost use Rattle.node_table.specs.Tables.{reach};
-ghost use Rattle.node_table.specs.Rebuilt.{IsLonger, IsMade};
+ghost use Rattle.node_table.specs.Rebuilt.{IsLonger, IsAdded};
 ghost use Rattle.node_table.specs.Steps.{IsBase, Does};
 
 use crate::cell::Cell;
@@ -25,7 +25,7 @@ pub fn put(
     rev: Rev,
 ) -> Result<NodeId, Unfit>
     requires base { IsBase rev cells.old.items root }
-    ensures made { IfOk result (λ made. IsMade rev cells.old.items cells.new.items made (length (names_in path.now) + 1)) }
+    ensures made { IfOk result (λ made. IsAdded rev cells.old.items cells.new.items made path.now) }
     ensures says { Does rev (changes.Put path.now text.now) cells.old.items cells.new.items root result }
     ensures longer { IsLonger cells.old.items cells.new.items }
 {
@@ -48,7 +48,7 @@ fn put_over(
     requires base { IsBase rev cells.old.items root }
     requires path { IsTrue (is_path path.now) }
     requires there { reach cells.old.items (Some root) (names_in path.now) ≡ Some id }
-    ensures made { IfOk result (λ made. IsMade rev cells.old.items cells.new.items made (length (names_in path.now) + 1)) }
+    ensures made { IfOk result (λ made. IsAdded rev cells.old.items cells.new.items made path.now) }
     ensures says { Does rev (changes.Put path.now text.now) cells.old.items cells.new.items root result }
     ensures longer { IsLonger cells.old.items cells.new.items }
 {
@@ -74,7 +74,7 @@ fn put_new(
     requires base { IsBase rev cells.old.items root }
     requires path { IsTrue (is_path path.now) }
     requires absent { reach cells.old.items (Some root) (names_in path.now) ≡ None }
-    ensures made { IfOk result (λ made. IsMade rev cells.old.items cells.new.items made (length (names_in path.now) + 1)) }
+    ensures made { IfOk result (λ made. IsAdded rev cells.old.items cells.new.items made path.now) }
     ensures says { Does rev (changes.Put path.now text.now) cells.old.items cells.new.items root result }
     ensures longer { IsLonger cells.old.items cells.new.items }
 {

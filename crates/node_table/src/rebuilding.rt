@@ -1,4 +1,4 @@
-ghost use Rattle.std.specs.Prelude.{◌≡◌, ◌≤◌, ◌<◌, ◌++◌, ◌∷◌, [], ℕ, IsTrue, IfOk, OnOk, length, Some, true};
+ghost use Rattle.std.specs.Prelude.{◌≡◌, ◌≤◌, ◌<◌, ◌++◌, ◌∷◌, [], ℕ, IsTrue, IfOk, OnOk, OnErr, length, Some, true};
 ghost use Rattle.dsv_base.specs.Paths.{is_component, components};
 ghost use Rattle.node_table.specs.Ways.{are_names};
 ghost use Rattle.node_table.specs.Tables.{cell_at, child_in, IsSound};
@@ -17,6 +17,7 @@ use std::alloc::Global;
 pub fn push(cells: &mut Vec<Cell>, cell: Cell) -> Result<NodeId, NoMemory>
     ensures number { IfOk result (λ id. id ≡ length cells.old.items) }
     ensures cells { OnOk result (cells.new.items ≡ cells.old.items ++ cell ∷ []) }
+    ensures full { OnErr result (cells.new.items ≡ cells.old.items) }
     ensures longer { IsLonger cells.old.items cells.new.items }
 {
     let id = NodeId::of(cells.len() as u64);

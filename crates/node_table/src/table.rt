@@ -1,15 +1,20 @@
-ghost use Rattle.std.specs.Prelude.{◌≡◌, ◌<◌, ℕ, [], IfOk, OnErr, Some, length};
+ghost use Rattle.std.specs.Prelude.{◌≡◌, ◌<◌, ◌∷◌, ℕ, [], IfOk, OnErr, Some, length};
+ghost use Rattle.dsv_base.specs.Paths.{root_text};
+ghost use Rattle.rev_nodes.specs.Trees.{new_dir};
+ghost use Rattle.node_table.specs.Shown.{IsShown};
 ghost use Rattle.node_table.specs.Ways.{names_in};
 ghost use Rattle.node_table.specs.Tables.{cell_at, reach};
-ghost use Rattle.node_table.specs.Rebuilt.{IsMade};
+ghost use Rattle.node_table.specs.Rebuilt.{IsMade, IsLonger};
 ghost use Rattle.node_table.specs.Steps.{IsBase, IsSource, Changes, added};
 
 use crate::cell::Cell;
 use crate::changing::change;
+use crate::new_cells::new_cell;
 use crate::places::place_at;
 use crate::reading::cell_of;
-use dsv_base::{Path, Rev};
-use rev_nodes::{Change, Entry, Node, NodeId, Unfit};
+use crate::rebuilding::push;
+use dsv_base::{Bytes, NoMemory, Path, Rev};
+use rev_nodes::{Change, Entry, Kind, Node, NodeId, Unfit};
 use std::alloc::Global;
 use std::marker::Model;
 
@@ -42,6 +47,16 @@ impl Table {
         Table {
             cells: Vec::new(alloc),
         }
+    }
+
+    /// Adds the tree of a revision that has the root alone, and gives its root.
+    pub fn add_root(&mut self, alloc: Global, rev: Rev) -> Result<NodeId, NoMemory>
+        ensures base { IfOk result (λ root. IsBase rev self.new root) }
+        ensures shown { IfOk result (λ root. IsShown self.new root ((root_text, new_dir rev) ∷ [])) }
+        ensures longer { IsLonger self.old self.new }
+    {
+        let text = Bytes::from_vec(Vec::new(alloc));
+        push(&mut self.cells, new_cell(alloc, Kind::Dir, text, rev))
     }
 
     /// How many nodes it has. Each number is below that.
