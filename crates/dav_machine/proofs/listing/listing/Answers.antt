@@ -21,7 +21,7 @@ put_entries-requires c =
     let path = c.args.at.now.path.now in
     let sound : IsSound trees = subst (λ (f : Forest). IsSound f) c.trees.ensures c.entries-entries.ensures.sound in
     let are = subst (λ (f : Forest). c.entries-entries.result.now ≡ entries_in path (places_at f rev)) c.trees.ensures (c.entries-entries.ensures.are rev path (ap (λ (f : Forest). id_at f rev path) c.trees.ensures ∙ c.requires.number)) in
-    subst (λ (entries : List Entry). All (StandsIn trees rev path) entries) (sym are) (entries_stand trees rev path sound)
+    record { stand = subst (λ (entries : List Entry). All (StandsIn trees rev path) entries) (sym are) (entries_stand trees rev path sound) }
 
 pub returns : goal.returns
 unfolding listing_text
