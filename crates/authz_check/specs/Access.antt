@@ -50,10 +50,12 @@ right_at rules name user path = option_or (right_in user (section_rules rules (S
 unfoldable pub access : List Rule → List ℕ → Option (List ℕ) → List ℕ → Right
 access rules name user path = slice_index_or (filter_map (right_at rules name user) (ancestors path)) 0 No
 
+-- the right lets read
 abbrev pub gives_reading : Right → Bool
 gives_reading No = false
 gives_reading Read = true
 gives_reading Write = true
 
+-- the rules let the user read at the path
 unfoldable pub can_read : List Rule → List ℕ → Option (List ℕ) → List ℕ → Bool
 can_read rules name user path = gives_reading (access rules name user path)

@@ -17,14 +17,17 @@ rank No = 0
 rank Read = 1
 rank Write = 2
 
+-- the right is at least the wanted one
 abbrev pub at_least : Right → Right → Bool
 at_least want right = nat_le (rank want) (rank right)
 
+-- the right is none
 abbrev pub is_no : Right → Bool
 is_no No = true
 is_no Read = false
 is_no Write = false
 
+-- a right meets a demand: to be at least one, or to be none
 abbrev pub meets : Demand → Right → Bool
 meets (AtLeast want) = at_least want
 meets Nothing = is_no

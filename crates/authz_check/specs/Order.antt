@@ -17,6 +17,7 @@ path_at rules place = option_map_or (λ rule. rule.path) (slice_get rules place)
 abbrev pub HasEach : (Rule → Type 0) → List Rule → List ℕ → Type 0
 HasEach Kind rules places = (i : ℕ) (rule : Rule) → slice_get rules i ≡ Some rule → Kind rule → Contains places i
 
+-- the places stand in byte order of their rules' paths
 abbrev pub IsRising : List Rule → List ℕ → Type 0
 IsRising rules places = IsSortedBy (λ a b. is_lt (slice_cmp nat_cmp (path_at rules a) (path_at rules b))) places
 
@@ -25,10 +26,12 @@ pub record IsOrder (name : List ℕ) (rules : List Rule) (places : List ℕ) : T
   pub each : HasEach (λ rule. speaks_of name rule ≡ true) rules places
   pub rising : IsRising rules places
 
+-- the rule, where the test holds
 abbrev pub where_true : Bool → Rule → Option Rule
 where_true true rule = Some rule
 where_true false rule = None
 
+-- the rule, where it stands at or under the path, in a section that speaks of the repository
 abbrev pub as_section : List ℕ → List ℕ → Option Rule → Option Rule
 as_section name top None = None
 as_section name top (Some rule) = where_true (speaks_of name rule && is_under rule.path top) rule

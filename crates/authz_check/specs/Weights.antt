@@ -16,7 +16,7 @@ level (Some right) = rank right + 1
 abbrev pub weight : Option (List ℕ) → Option (List ℕ) → List ℕ → Rule → ℕ
 weight user repos path rule = if is_in_section repos path rule && matches rule user then level (Some rule.right) else 0
 
--- the same of the rule at a place
+-- the weight of the rule at a place
 abbrev pub weight_at : Option (List ℕ) → Option (List ℕ) → List ℕ → List Rule → ℕ → ℕ
 weight_at user repos path rules place = option_map_or (weight user repos path) (slice_get rules place) 0
 

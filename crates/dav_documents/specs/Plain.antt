@@ -8,7 +8,7 @@ use Rattle.dsv_base.specs.Escapes.{xml_plain}
 abbrev pub begins_name : ℕ → Bool
 begins_name b = is_ascii_alphabetic b || b == 95 || nat_le 128 b
 
--- these, a digit, `-`, `.`, or the `:` behind a prefix
+-- a byte of a name behind its first: one that may begin a name, a digit, `-`, `.`, or the `:` behind a prefix
 abbrev pub is_written_name_byte : ℕ → Bool
 is_written_name_byte b = begins_name b || is_ascii_digit b || b == 45 || b == 46 || b == 58
 

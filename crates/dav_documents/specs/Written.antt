@@ -79,7 +79,7 @@ page_text w = written_text w ++ codes "\n"
 abbrev pub declaration : List ℕ
 declaration = codes "<?xml version=\"1.0\" encoding=\"utf-8\"?>\n"
 
--- the same behind the declaration: a body in XML
+-- a body in XML: the declaration, and the elements behind it
 unfoldable pub body_text : Written → List ℕ
 body_text w = declaration ++ page_text w
 

@@ -6,7 +6,8 @@ abbrev pub Gives : {X E : Type 0} → (E → Bool) → Result X E → Result X E
 Gives is_free (Ok x) right = right ≡ Ok x
 Gives is_free (Err e) right = MatchBool (is_free e) (Unit {0}) (right ≡ Err e)
 
--- the same of an answer that is seen by a view, as what a reference points to
+-- what a call answered, seen by a view (as the bytes that a reference points to), is what a definition says, but
+-- for an error that is free
 abbrev pub GivesBy : {X Y E : Type 0} → (X → Y) → (E → Bool) → Result X E → Result Y E → Type 0
 GivesBy view is_free (Ok x) right = right ≡ Ok (view x)
 GivesBy view is_free (Err e) right = MatchBool (is_free e) (Unit {0}) (right ≡ Err e)

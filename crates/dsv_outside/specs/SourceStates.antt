@@ -7,7 +7,7 @@ pub record SureSourceState : Type 0 where
   pub left : List ℕ
   pub over : Bool
 
--- the same, and the calls so far
+-- a source in memory, and its calls so far
 pub record MemSourceState : Type 0 where
   pub left : List ℕ
   pub over : Bool

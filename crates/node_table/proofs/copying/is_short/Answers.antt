@@ -1,0 +1,19 @@
+use Rattle.std.proofs.Common.{◌≡◌, ◌<◌, ◌-◌, ◌≤◌, ℕ, List, [], Some, None, true, false, length, sym, ap, subst, ◌∙◌, arith}
+use Rattle.node_table.specs.declared.cell.Cell.{Cell}
+use Rattle.node_table.specs.Ways.{Name, are_names, names_in}
+use Rattle.node_table.specs.Tables.{cell_at, reach, IsSound}
+use Rattle.node_table.specs.Rebuilt.{has_way}
+use Rattle.node_table.specs.Limits.{AllFit, HasLong}
+use Rattle.node_table.specs.Steps.{cell_copied}
+use Rattle.node_table.proofs.Growing.{reach_within}
+use Rattle.node_table.proofs.PathNames.{names_of_path}
+use Rattle.node_table.proofs.copying.is_short.Goals as goal
+
+pub overflow_sub-depth : goal.overflow_sub-depth
+overflow_sub-depth c =
+    let few : length (names_in c.text-text.result.now) ≤ 64 = subst (λ t. length (names_in t) ≤ 64) (sym c.text-text.ensures.text) (names_of_path c.args.path.now c.text-text.ensures.path).few in
+    let d = c.depth.ensures in
+    omega (arith, few, d)
+
+pub overflow_sub-text : goal.overflow_sub-text
+overflow_sub-text c = subst (λ (t : List ℕ). length t ≤ 1024) (sym c.text-text.ensures.text) (names_of_path c.args.path.now c.text-text.ensures.path).short

@@ -1,0 +1,53 @@
+ghost use Rattle.std.specs.Prelude.{◌≡◌, ◌<◌, ℕ, Some, length};
+ghost use Rattle.dsv_base.specs.Paths.{components};
+ghost use Rattle.node_table.specs.Tables.{cell_at, child, child_in, reach, IsSound};
+
+use crate::cell::Cell;
+use crate::names::first_name;
+use rev_nodes::{Entry, NodeId};
+use std::cmp::Ordering;
+
+/// The cell of a number.
+pub fn cell_of(cells: &[Cell], id: NodeId) -> &Cell
+    requires { id < length cells.now }
+    ensures { result.now ≡ cell_at cells.now id }
+{
+    &cells[id.get() as usize]
+}
+
+/// The number of the entry with a name.
+pub fn child_of(entries: &[Entry], name: &[u8]) -> Option<NodeId>
+    ensures { result ≡ child name.now entries.now }
+{
+    'entries: for entry in entries {
+        match name.cmp(entry.name.get()) {
+            Ordering::Equal => return Some(entry.id),
+            _ => {}
+        }
+    }
+    None
+}
+
+/// The number at a name in a directory.
+pub fn child_at(cells: &[Cell], id: NodeId, name: &[u8]) -> Option<NodeId>
+    requires { id < length cells.now }
+    ensures { result ≡ child_in cells.now name.now id }
+{
+    child_of(cell_of(cells, id).entries.get(), name)
+}
+
+/// The number that names lead to.
+#[tactic(auto, using(crate::proofs::Growing::reach_none, crate::proofs::Growing::child_within))]
+pub fn reached(cells: &[Cell], id: NodeId, rest: &[u8]) -> Option<NodeId>
+    requires sound { IsSound cells.now }
+    requires within { id < length cells.now }
+    ensures { result ≡ reach cells.now (Some id) (components rest.now) }
+{
+    match first_name(rest) {
+        None => child_at(cells, id, rest),
+        Some((name, after)) => match child_at(cells, id, name) {
+            None => None,
+            Some(child) => reached(cells, child, after),
+        },
+    }
+}
