@@ -11,10 +11,12 @@ use Rattle.dav_names.specs.declared.resource.Resource.TheVariants.{Public, Rvr}
 use Rattle.dav_names.specs.Written.{target_text}
 use Rattle.dav_documents.specs.Written.{Written, attribute, text_element, element, for_each, written_text}
 
+-- a child of a directory: its name and its kind
 pub record Child : Type 0 where
   pub name : List ℕ
   pub kind : Kind
 
+-- the child that a place of a tree is, if it is one of the directory
 abbrev pub child_in : List ℕ → List ℕ × TreeNode → Option Child
 child_in directory place = if is_child directory place.0 then Some (record { name = name_of place.0; kind = place.1.node.kind }) else None
 
@@ -36,9 +38,11 @@ at_path resource path = Public path
 abbrev pub href_of : List ℕ → Resource → List ℕ → Child → List ℕ
 href_of root resource directory child = target_text root (at_path resource (join_text directory child.name)) ++ slash_of child.kind
 
+-- an item with a link
 abbrev pub link_item : List ℕ → List ℕ → Written
 link_item href text = element (codes "li") [] (text_element (codes "a") (attribute (codes "href") href ∷ []) text)
 
+-- the item of a child
 abbrev pub item_of : List ℕ → Resource → List ℕ → Child → Written
 item_of root resource directory child = link_item (href_of root resource directory child) (child.name ++ slash_of child.kind)
 

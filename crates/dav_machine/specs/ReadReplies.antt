@@ -55,7 +55,7 @@ get_reply shown resource rev path =
     or_no_node (node_in shown rev path)
     >>= (λ found. Ok (node_reply shown resource rev path found.node found.node.kind))
 
--- .. where the resource names a path
+-- the content of the node that is asked for, where the resource names a path
 abbrev pub content_at : Shown → Resource → ℕ → Option (List ℕ) → Result Reply Refusal
 content_at shown resource rev None = Err NoNode
 content_at shown resource rev (Some path) = get_reply shown resource rev path

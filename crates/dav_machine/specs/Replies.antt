@@ -7,6 +7,7 @@ use Rattle.dav_replies.specs.declared.allow_kind.AllowKind.TheVariants as allow
 use Rattle.dav_replies.specs.Replies.{field_of}
 use Rattle.dav_replies.specs.Methods.{allow_list}
 
+-- the field Content-Type
 abbrev pub content_type : List ℕ → Field
 content_type value = field_of (codes "Content-Type") value
 
@@ -14,6 +15,7 @@ content_type value = field_of (codes "Content-Type") value
 unfoldable pub content_reply : List ℕ → List ℕ → Reply
 content_reply media content = record { status = 200; fields = content_type media ∷ []; content = content; has_content = true }
 
+-- the media type of a directory's page
 abbrev pub html_type : List ℕ
 html_type = codes "text/html; charset=\"utf-8\""
 
@@ -21,13 +23,15 @@ html_type = codes "text/html; charset=\"utf-8\""
 abbrev pub stub_field : List ℕ → List ℕ → List ℕ → Field
 stub_field root name stub = field_of name (root ++ stub)
 
--- of the repository, of revisions, of transactions
+-- the fields that tell where the repository is, and where it is asked as a whole
 unfoldable pub root_fields : List ℕ → List Field
 root_fields root = stub_field root (codes "SVN-Repository-Root") [] ∷ stub_field root (codes "SVN-Me-Resource") (codes "/!svn/me") ∷ []
 
+-- the fields that tell where revisions are
 unfoldable pub rev_fields : List ℕ → List Field
 rev_fields root = stub_field root (codes "SVN-Rev-Root-Stub") (codes "/!svn/rvr") ∷ stub_field root (codes "SVN-Rev-Stub") (codes "/!svn/rev") ∷ []
 
+-- the fields that tell where transactions are
 unfoldable pub txn_fields : List ℕ → List Field
 txn_fields root = stub_field root (codes "SVN-Txn-Root-Stub") (codes "/!svn/txr") ∷ stub_field root (codes "SVN-Txn-Stub") (codes "/!svn/txn") ∷ []
 
@@ -44,5 +48,6 @@ server_fields uuid youngest =
 abbrev pub options_fields : List ℕ → List ℕ → ℕ → List Field
 options_fields root uuid youngest = server_fields uuid youngest ++ root_fields root ++ rev_fields root ++ txn_fields root
 
+-- the reply to OPTIONS
 unfoldable pub options_reply : List ℕ → List ℕ → ℕ → Reply
 options_reply root uuid youngest = record { status = 200; fields = options_fields root uuid youngest; content = []; has_content = false }

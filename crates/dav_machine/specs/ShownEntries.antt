@@ -11,14 +11,14 @@ use Rattle.dav_machine.specs.Listings.{Child}
 abbrev pub child_with : List ℕ → Numbered → Child
 child_with name place = record { name = name; kind = place.here.node.kind }
 
--- .. where that may be read
+-- an entry of a directory as a child, where its path may be read
 abbrev pub shown_entry : (List ℕ → Bool) → Forest → ℕ → List ℕ → Entry → Option Child
 shown_entry reads forest rev directory entry =
     if reads (join_text directory entry.name)
     then option_map (child_with entry.name) (place_at forest rev (join_text directory entry.name))
     else None
 
--- .. of each of these entries that may be read
+-- the entries of a directory that may be read, as its children
 abbrev pub shown_entries : (List ℕ → Bool) → Forest → ℕ → List ℕ → List Entry → List Child
 shown_entries reads forest rev directory entries = filter_map (shown_entry reads forest rev directory) entries
 
