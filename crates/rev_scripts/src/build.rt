@@ -57,7 +57,8 @@ fn zeroth_from(alloc: Global, text: &[u8]) -> Result<(Commit, u32, &[u8]), Scrip
 fn read_others(alloc: Global, trees: Trees, line: u32, text: &[u8]) -> Result<Trees, ScriptFault>
     requires room { line + length text.now ≤ 4294967295 }
     requires few { length trees.revisions + length text.now ≤ 2000000000 }
-    ensures { GivesBy repository_of wants_memory result (with_revisions trees (revisions_from (length text.now) (revisions_of trees) line text.now)) }
+    ensures { GivesBy repository_of wants_memory result
+        (with_revisions trees (revisions_from (length text.now) (revisions_of trees) line text.now)) }
 {
     let mut trees = trees;
     let mut begins = line;
@@ -80,7 +81,8 @@ fn push_revision<'a>(
 ) -> Result<(u32, &'a [u8]), ScriptFault>
     requires room { line + length text.now ≤ 4294967295 }
     requires few { length trees.old.revisions ≤ 2000000000 }
-    ensures value { GivesBy (λ x. (revisions_of trees.new, x.0, x.1.now)) wants_memory result (next_from (revisions_of trees.old) line text.now) }
+    ensures value { GivesBy (λ x. (revisions_of trees.new, x.0, x.1.now)) wants_memory result
+        (next_from (revisions_of trees.old) line text.now) }
     ensures name { OnOk result (trees.new.name ≡ trees.old.name) }
     ensures uuid { OnOk result (trees.new.uuid ≡ trees.old.uuid) }
     ensures more { OnOk result (length trees.new.revisions ≡ length trees.old.revisions + 1) }
@@ -117,7 +119,8 @@ fn first_fault(
     requires changes { MatchBool (wants_memory fault) ⊤ (length told.changes ≤ 4294967295) }
     requires sound { MatchBool (wants_memory fault) ⊤ (IsSoundCommit (commit_of author moment told)) }
     requires few { length trees.old.revisions ≤ 2000000000 }
-    ensures { FirstFault (at_change told.lines (pushed (revisions_of trees.old) (commit_of author moment told))) fault result }
+    ensures { FirstFault
+        (at_change told.lines (pushed (revisions_of trees.old) (commit_of author moment told))) fault result }
 {
     match fault {
         ScriptFault::NoMemory => ScriptFault::NoMemory,

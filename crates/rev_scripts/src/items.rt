@@ -50,7 +50,8 @@ fn item_of<'a>(
     numbers: &[u8],
     text: &'a [u8],
 ) -> Result<(Item, &'a [u8]), ItemFault>
-    ensures value { GivesBy (λ x. (x.0, x.1.now)) is_no_memory result (item_of number word.now numbers.now text.now) }
+    ensures value { GivesBy (λ x. (x.0, x.1.now)) is_no_memory result
+        (item_of number word.now numbers.now text.now) }
     ensures shorter { IfOk result (λ x. length x.1.now ≤ length text.now) }
 {
     if word == b"prop".as_slice() {

@@ -56,7 +56,8 @@ pub fn one_part(size: u64, text: &[u8]) -> Result<(&[u8], &[u8]), ItemFault>
 
 /// The last two parts.
 pub fn two_parts(first: u64, second: u64, text: &[u8]) -> Result<(&[u8], &[u8], &[u8]), ItemFault>
-    ensures value { GivesBy (λ x. (x.0.now, x.1.now, x.2.now)) is_no_memory result (two_parts first second text.now) }
+    ensures value { GivesBy (λ x. (x.0.now, x.1.now, x.2.now)) is_no_memory result
+        (two_parts first second text.now) }
     ensures shorter { IfOk result (λ x. length x.2.now ≤ length text.now) }
 {
     let (one, rest) = bytes_from(first, text)?;
@@ -71,7 +72,8 @@ pub fn three_parts(
     third: u64,
     text: &[u8],
 ) -> Result<(&[u8], &[u8], &[u8], &[u8]), ItemFault>
-    ensures value { GivesBy (λ x. (x.0.now, x.1.now, x.2.now, x.3.now)) is_no_memory result (three_parts first second third text.now) }
+    ensures value { GivesBy (λ x. (x.0.now, x.1.now, x.2.now, x.3.now)) is_no_memory result
+        (three_parts first second third text.now) }
     ensures shorter { IfOk result (λ x. length x.3.now ≤ length text.now) }
 {
     let (one, rest) = bytes_from(first, text)?;

@@ -41,7 +41,8 @@ pub fn heading_from(text: &[u8]) -> Result<(&[u8], &[u8], &[u8]), ScriptFault>
 }
 
 fn repos_line(text: &[u8]) -> Result<(&[u8], &[u8]), ItemFault>
-    ensures value { GivesBy (λ x. (x.0.now, x.1.now)) is_no_memory result (told_line is_repository_name (codes "repos ") text.now) }
+    ensures value { GivesBy (λ x. (x.0.now, x.1.now)) is_no_memory result
+        (told_line is_repository_name (codes "repos ") text.now) }
     ensures shorter { IfOk result (λ x. length x.1.now ≤ length text.now) }
 {
     let told = after_front(b"repos ", text)?;
@@ -53,7 +54,8 @@ fn repos_line(text: &[u8]) -> Result<(&[u8], &[u8]), ItemFault>
 }
 
 fn uuid_line(text: &[u8]) -> Result<(&[u8], &[u8]), ItemFault>
-    ensures value { GivesBy (λ x. (x.0.now, x.1.now)) is_no_memory result (told_line is_uuid (codes "uuid ") text.now) }
+    ensures value { GivesBy (λ x. (x.0.now, x.1.now)) is_no_memory result
+        (told_line is_uuid (codes "uuid ") text.now) }
     ensures shorter { IfOk result (λ x. length x.1.now ≤ length text.now) }
 {
     let told = after_front(b"uuid ", text)?;
@@ -161,8 +163,10 @@ pub fn read_items<'a>(
     text: &'a [u8],
 ) -> Result<(u32, &'a [u8]), ScriptFault>
     requires { line + length text.now ≤ 4294967295 }
-    ensures after { GivesBy (λ x. (x.0, x.1.now)) wants_memory result (items_from (length text.now) number told.old line text.now).1 }
-    ensures told { UnlessNoMemory result (told.new ≡ (items_from (length text.now) number told.old line text.now).0) }
+    ensures after { GivesBy (λ x. (x.0, x.1.now)) wants_memory result
+        (items_from (length text.now) number told.old line text.now).1 }
+    ensures told { UnlessNoMemory result
+        (told.new ≡ (items_from (length text.now) number told.old line text.now).0) }
     ensures room { IfOk result (λ x. x.0 + length x.1.now ≤ line + length text.now) }
     ensures shorter { IfOk result (λ x. length x.1.now ≤ length text.now) }
     ensures few { UnlessNoMemory result (length told.new.changes ≤ length told.old.changes + length text.now) }

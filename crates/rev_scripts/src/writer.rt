@@ -91,7 +91,8 @@ fn put_change(alloc: Global, out: &mut Vec<u8>, change: &Change) -> Result<(), N
 
 /// An item of one part.
 fn put_one(alloc: Global, out: &mut Vec<u8>, word: &[u8], one: &[u8]) -> Result<(), NoMemory>
-    ensures { OnOk result (out.new.items ≡ out.old.items ++ one_number word.now (length one.now) ++ one.now ++ codes "\n") }
+    ensures { OnOk result (out.new.items
+        ≡ out.old.items ++ one_number word.now (length one.now) ++ one.now ++ codes "\n") }
 {
     put_one_number(alloc, out, word, one.len() as u64)?;
     out.extend_from_slice(one)?;
@@ -107,7 +108,9 @@ fn put_two(
     one: &[u8],
     two: &[u8],
 ) -> Result<(), NoMemory>
-    ensures { OnOk result (out.new.items ≡ out.old.items ++ two_numbers word.now (length one.now) (length two.now) ++ one.now ++ two.now ++ codes "\n") }
+    ensures { OnOk result (out.new.items
+        ≡ out.old.items ++ two_numbers word.now (length one.now) (length two.now)
+        ++ one.now ++ two.now ++ codes "\n") }
 {
     put_two_numbers(alloc, out, word, one.len() as u64, two.len() as u64)?;
     out.extend_from_slice(one)?;
@@ -124,7 +127,9 @@ fn put_three(
     name: &[u8],
     value: &[u8],
 ) -> Result<(), NoMemory>
-    ensures { OnOk result (out.new.items ≡ out.old.items ++ three_numbers (codes "setprop") (length path.now) (length name.now) (length value.now) ++ path.now ++ name.now ++ value.now ++ codes "\n") }
+    ensures { OnOk result (out.new.items
+        ≡ out.old.items ++ three_numbers (codes "setprop") (length path.now) (length name.now) (length value.now)
+        ++ path.now ++ name.now ++ value.now ++ codes "\n") }
 {
     let (one, two, three) = (path.len() as u64, name.len() as u64, value.len() as u64);
     put_three_numbers(alloc, out, b"setprop", one, two, three)?;
@@ -142,7 +147,9 @@ fn put_copy(
     rev: Rev,
     path: &[u8],
 ) -> Result<(), NoMemory>
-    ensures { OnOk result (out.new.items ≡ out.old.items ++ three_numbers (codes "copy") (length source.now) rev (length path.now) ++ source.now ++ path.now ++ codes "\n") }
+    ensures { OnOk result (out.new.items
+        ≡ out.old.items ++ three_numbers (codes "copy") (length source.now) rev (length path.now)
+        ++ source.now ++ path.now ++ codes "\n") }
 {
     let (one, two, three) = (source.len() as u64, u64::from(rev.get()), path.len() as u64);
     put_three_numbers(alloc, out, b"copy", one, two, three)?;

@@ -42,7 +42,8 @@ fn changed_in(
 ) -> Result<List<Changed>, NoMemory>
     requires before { IsTrue (in_order (tree_in before.now)) }
     requires after { IsTrue (in_order (tree_in after.now)) }
-    ensures { IfOk result (λ list. list ≡ filter_map (changed_in table.now (tree_in before.now) (tree_in after.now)) table.now) }
+    ensures { IfOk result (λ list.
+        list ≡ filter_map (changed_in table.now (tree_in before.now) (tree_in after.now)) table.now) }
 {
     let mut list = Vec::new(alloc);
     'rows: for row in table.rows() {
@@ -62,7 +63,8 @@ fn changed_at(
 ) -> Result<Option<Changed>, NoMemory>
     requires before { IsTrue (in_order (tree_in before.now)) }
     requires after { IsTrue (in_order (tree_in after.now)) }
-    ensures { IfOk result (λ changed. changed ≡ changed_in table.now (tree_in before.now) (tree_in after.now) (path.now, no_last)) }
+    ensures { IfOk result (λ changed.
+        changed ≡ changed_in table.now (tree_in before.now) (tree_in after.now) (path.now, no_last)) }
 {
     let was = place_at(before, path.text());
     let now = place_at(after, path.text());
@@ -76,7 +78,13 @@ fn changed_at(
 
 /// A path at which a node is, and was none.
 fn added(table: &ChangeTable, path: &Path, now: &Place) -> Result<Changed, NoMemory>
-    ensures { IfOk result (λ changed. changed ≡ record { path = path.now; mark = marks.Added; kind = now.now.node.kind; source = source_of table.now path.now }) }
+    ensures { IfOk result (λ changed. changed
+        ≡ record {
+          path = path.now;
+          mark = marks.Added;
+          kind = now.now.node.kind;
+          source = source_of table.now path.now;
+        }) }
 {
     Ok(Changed {
         path: path.copy()?,
@@ -88,7 +96,8 @@ fn added(table: &ChangeTable, path: &Path, now: &Place) -> Result<Changed, NoMem
 
 /// A path at which a node was, and is none.
 fn deleted(path: &Path, kind: Kind) -> Result<Changed, NoMemory>
-    ensures { IfOk result (λ changed. changed ≡ record { path = path.now; mark = marks.Deleted; kind = kind; source = None }) }
+    ensures { IfOk result (λ changed.
+        changed ≡ record { path = path.now; mark = marks.Deleted; kind = kind; source = None }) }
 {
     Ok(Changed {
         path: path.copy()?,
@@ -100,7 +109,9 @@ fn deleted(path: &Path, kind: Kind) -> Result<Changed, NoMemory>
 
 /// A path at which a node is and was.
 fn kept(table: &ChangeTable, path: &Path, now: &Place) -> Result<Changed, NoMemory>
-    ensures { IfOk result (λ changed. changed ≡ kept_as path.now (source_of table.now path.now) (node_of now.now) (is_some (deleted table.now path.now))) }
+    ensures { IfOk result (λ changed. changed
+        ≡ kept_as path.now (source_of table.now path.now) (node_of now.now)
+        (is_some (deleted table.now path.now))) }
 {
     let kind = now.node.get().kind;
     if table.is_deleted(path) {

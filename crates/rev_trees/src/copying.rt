@@ -21,7 +21,8 @@ pub fn copies(
     path: &Path,
     rev: Rev,
 ) -> Result<Vec<Shared<Place>>, Unfit>
-    ensures { Fits (λ new. tree_in new.items ≡ copied source.now source_rev path.now rev (tree_in places.now)) (or_too_long None (are_paths (copied source.now source_rev path.now rev (tree_in places.now)))) result }
+    ensures { Fits (λ new. tree_in new.items ≡ copied source.now source_rev path.now rev (tree_in places.now))
+        (or_too_long None (are_paths (copied source.now source_rev path.now rev (tree_in places.now)))) result }
 {
     let mut new = Vec::new(alloc);
     'places: for place in places {
@@ -36,7 +37,8 @@ pub fn copies(
 
 /// Where a copy puts what is at a path at or below its source.
 fn moved_path(alloc: Global, source: &Path, path: &Path, place: &Path) -> Result<Path, Unfit>
-    ensures { Fits (λ new. new ≡ moved source.now path.now place.now) (if is_path (moved source.now path.now place.now) then None else Some whys.TooLong) result }
+    ensures { Fits (λ new. new ≡ moved source.now path.now place.now)
+        (if is_path (moved source.now path.now place.now) then None else Some whys.TooLong) result }
 {
     let text = moved_text(alloc, source.text(), path.text(), place.text())?;
     match Path::parse(alloc, text.as_slice()) {
@@ -77,7 +79,8 @@ fn copy_of(
     source_rev: Rev,
     rev: Rev,
 ) -> Result<Shared<Place>, NoMemory>
-    ensures { IfOk result (λ new. entry new ≡ (path, copied_node source_rev rev place.now.path (node_of place.now))) }
+    ensures { IfOk result (λ new.
+        entry new ≡ (path, copied_node source_rev rev place.now.path (node_of place.now))) }
 {
     let new = Place {
         path,

@@ -73,7 +73,8 @@ fn put(
     rev: Rev,
 ) -> Result<(), Unfit>
     requires { IsTrue (in_order (tree_in places.old.items)) }
-    ensures says { (trees : List Tree) → Applies rev (changes.Put path.now text.now) trees places.old.items places.new.items result }
+    ensures says { (trees : List Tree)
+        → Applies rev (changes.Put path.now text.now) trees places.old.items places.new.items result }
     ensures named { IfOk result (λ done. IsTrue (is_path path.now)) }
 {
     let place = put_place(alloc, places.as_slice(), path, text, rev)?;
@@ -92,7 +93,9 @@ fn put_place(
 ) -> Result<Place, Unfit>
     requires { IsTrue (in_order (tree_in places.now)) }
     ensures named { IfOk result (λ place. IsTrue (is_path path.now)) }
-    ensures says { Fits (IsPlaced path.now (settled rev (with_text rev text.now (at path.now (tree_in places.now))))) (unfit (changes.Put path.now text.now) [] (tree_in places.now)) result }
+    ensures says { Fits
+        (IsPlaced path.now (settled rev (with_text rev text.now (at path.now (tree_in places.now)))))
+        (unfit (changes.Put path.now text.now) [] (tree_in places.now)) result }
 {
     match place_at(places, path.text()) {
         Some(place) => match place.node.get().kind {
@@ -118,7 +121,9 @@ fn set_prop(
     rev: Rev,
 ) -> Result<(), Unfit>
     requires { IsTrue (in_order (tree_in places.old.items)) }
-    ensures says { (trees : List Tree) → Applies rev (changes.SetProp path.now name.now value.now) trees places.old.items places.new.items result }
+    ensures says { (trees : List Tree)
+        → Applies rev (changes.SetProp path.now name.now value.now) trees
+        places.old.items places.new.items result }
     ensures named { IfOk result (λ done. IsTrue (is_path path.now)) }
 {
     let Some(old) = place_at(places.as_slice(), path.text()) else {
@@ -139,7 +144,8 @@ fn del_prop(
     rev: Rev,
 ) -> Result<(), Unfit>
     requires { IsTrue (in_order (tree_in places.old.items)) }
-    ensures says { (trees : List Tree) → Applies rev (changes.DelProp path.now name.now) trees places.old.items places.new.items result }
+    ensures says { (trees : List Tree)
+        → Applies rev (changes.DelProp path.now name.now) trees places.old.items places.new.items result }
     ensures named { IfOk result (λ done. IsTrue (is_path path.now)) }
 {
     let Some(old) = place_at(places.as_slice(), path.text()) else {
@@ -154,7 +160,8 @@ fn del_prop(
 #[tactic(auto, unfolding(rev_nodes::specs::Changes::unfit, rev_nodes::specs::Changes::apply))]
 fn mkdir(alloc: Global, places: &mut Vec<Shared<Place>>, path: &Path, rev: Rev) -> Result<(), Unfit>
     requires { IsTrue (in_order (tree_in places.old.items)) }
-    ensures says { (trees : List Tree) → Applies rev (changes.Mkdir path.now) trees places.old.items places.new.items result }
+    ensures says { (trees : List Tree)
+        → Applies rev (changes.Mkdir path.now) trees places.old.items places.new.items result }
     ensures named { IfOk result (λ done. IsTrue (is_path path.now)) }
 {
     check_free(places.as_slice(), path)?;
@@ -172,7 +179,8 @@ fn delete(
     rev: Rev,
 ) -> Result<(), Unfit>
     requires { IsTrue (in_order (tree_in places.old.items)) }
-    ensures says { (trees : List Tree) → Applies rev (changes.Delete path.now) trees places.old.items places.new.items result }
+    ensures says { (trees : List Tree)
+        → Applies rev (changes.Delete path.now) trees places.old.items places.new.items result }
     ensures named { IfOk result (λ done. IsTrue (is_path path.now)) }
 {
     if !is_at(places.as_slice(), path.text()) {
@@ -199,7 +207,14 @@ fn copy(
     requires sorted { IsTrue (in_order (tree_in places.old.items)) }
     requires source { IsTrue (in_order (tree_in from.now)) }
     ensures named { IfOk result (λ done. IsTrue (is_path path.now)) }
-    ensures says { Fits (λ done. AreOf (marked rev path.now (all_placed (copied source.now source_rev path.now rev (tree_in from.now)) (tree_in places.old.items))) places.new.items) (if is_some (at source.now (tree_in from.now)) then unfit_copy path.now (copied source.now source_rev path.now 0 (tree_in from.now)) (tree_in places.old.items) else Some whys.NoNode) result }
+    ensures says { Fits (λ done. AreOf
+        (marked rev path.now
+        (all_placed (copied source.now source_rev path.now rev (tree_in from.now)) (tree_in places.old.items)))
+        places.new.items)
+        (if is_some (at source.now (tree_in from.now))
+        then unfit_copy path.now (copied source.now source_rev path.now 0 (tree_in from.now))
+        (tree_in places.old.items)
+        else Some whys.NoNode) result }
 {
     if !is_at(from, source.text()) {
         return Err(Unfit::NoNode);
@@ -236,7 +251,9 @@ fn settle(
 ) -> Result<(), NoMemory>
     requires sorted { IsTrue (in_order (tree_in places.old.items)) }
     requires here { place.path ≡ path.now }
-    ensures { OnOk result (AreOf (marked rev path.now (placed path.now (node_of place) (tree_in places.old.items))) places.new.items) }
+    ensures { OnOk result
+        (AreOf (marked rev path.now (placed path.now (node_of place) (tree_in places.old.items)))
+        places.new.items) }
 {
     let place = Shared::of(alloc, place)?;
     stand(places, place)?;
@@ -252,7 +269,11 @@ fn new_place(
     text: Bytes,
     rev: Rev,
 ) -> Result<Place, NoMemory>
-    ensures { IfOk result (IsPlaced path.now (record { node = record { kind = kind; props = []; text = text; created = rev }; line = record { since = rev; source = None } })) }
+    ensures { IfOk result (IsPlaced path.now
+        (record {
+          node = record { kind = kind; props = []; text = text; created = rev };
+          line = record { since = rev; source = None };
+        })) }
 {
     let node = Node {
         kind,
@@ -273,7 +294,8 @@ fn new_place(
 /// The place with another text, as this revision leaves it. The text is copied once: the commit keeps
 /// its own.
 fn place_with_text(alloc: Global, place: &Place, text: &Bytes, rev: Rev) -> Result<Place, NoMemory>
-    ensures { IfOk result (λ new. new ≡ record place.now { node = record place.now.node { text = text.now; created = rev } }) }
+    ensures { IfOk result (λ new.
+        new ≡ record place.now { node = record place.now.node { text = text.now; created = rev } }) }
 {
     let old = place.node.get();
     let node = Node {
@@ -293,7 +315,8 @@ fn place_with_props(
     props: List<Prop>,
     rev: Rev,
 ) -> Result<Place, NoMemory>
-    ensures { IfOk result (λ new. new ≡ record place.now { node = record place.now.node { props = props; created = rev } }) }
+    ensures { IfOk result (λ new.
+        new ≡ record place.now { node = record place.now.node { props = props; created = rev } }) }
 {
     let old = place.node.get();
     let node = Node {

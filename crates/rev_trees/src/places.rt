@@ -28,7 +28,8 @@ pub fn search(places: &[Shared<Place>], path: &[u8]) -> Result<usize, usize>
 /// The place of the path, if it stands among places in order.
 pub fn place_at<'a>(places: &'a [Shared<Place>], path: &[u8]) -> Option<&'a Place>
     requires { IsTrue (in_order (tree_in places.now)) }
-    ensures { MatchOption result (at path.now (tree_in places.now) ≡ None) (λ place. IsFoundAt path.now (tree_in places.now) place.now) }
+    ensures { MatchOption result (at path.now (tree_in places.now) ≡ None)
+        (λ place. IsFoundAt path.now (tree_in places.now) place.now) }
 {
     match search(places, path) {
         Ok(index) => Some(places[index].get()),

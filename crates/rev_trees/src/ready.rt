@@ -43,7 +43,8 @@ impl Ready {
 
     /// The revision, and its number.
     pub(crate) fn parts(self) -> (Rev, FlatRevision)
-        ensures on { (base : List FlatRevision) × (ready_of base result.1 ≡ self) × IsReady base result.0 result.1 }
+        ensures on { (base : List FlatRevision)
+            × (ready_of base result.1 ≡ self) × IsReady base result.0 result.1 }
         ensures needs { self.needs ≡ 1 }
     {
         let Ready { rev, revision, .. } = self;

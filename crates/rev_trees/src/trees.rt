@@ -51,7 +51,8 @@ impl Model for Trees {
 
     ghost Value = { Forest };
 
-    ghost view = { λ t. forest_of t.name t.uuid t.revisions.items (vec_capacity t.revisions - vec_len t.revisions) };
+    ghost view = { λ t.
+        forest_of t.name t.uuid t.revisions.items (vec_capacity t.revisions - vec_len t.revisions) };
 
     ghost invariant = { λ t. AreKept t.revisions.items };
 }
@@ -61,7 +62,8 @@ impl Trees {
     pub fn new(alloc: Global, name: &[u8], uuid: &[u8], first: Commit) -> Result<Trees, NoMemory>
         requires first { first.changes ≡ [] }
         requires sound { IsSoundCommit first }
-        ensures { IfOk result (λ t. repository_of t ≡ record { name = name.now; uuid = uuid.now; revisions = first_revision first ∷ [] }) }
+        ensures { IfOk result (λ t. repository_of t
+            ≡ record { name = name.now; uuid = uuid.now; revisions = first_revision first ∷ [] }) }
     {
         let name = Bytes::of(alloc, name)?;
         let uuid = Bytes::of(alloc, uuid)?;
@@ -220,7 +222,8 @@ fn next_rev(count: usize) -> Option<Rev>
 
 /// Revision 0: the root alone.
 fn first_revisions(alloc: Global, first: Commit) -> Result<Vec<FlatRevision>, NoMemory>
-    ensures { IfOk result (λ revisions. revisions.items ≡ record { commit = first; changed = []; places = root_place ∷ []; entries = [] ∷ [] } ∷ []) }
+    ensures { IfOk result (λ revisions. revisions.items
+        ≡ record { commit = first; changed = []; places = root_place ∷ []; entries = [] ∷ [] } ∷ []) }
 {
     let mut places = Vec::new(alloc);
     places.push(root_place(alloc)?)?;
@@ -295,7 +298,8 @@ fn places_of(revisions: &[FlatRevision], rev: usize) -> &[Shared<Place>]
 /// The place that a number names.
 fn place_of(revisions: &[FlatRevision], number: u64) -> &Place
     requires { number % 4294967296 < length (places_in revisions.now (number / 4294967296)) }
-    ensures { (d : _) → result.now ≡ slice_index_or (places_in revisions.now (number / 4294967296)) (number % 4294967296) d }
+    ensures { (d : _)
+        → result.now ≡ slice_index_or (places_in revisions.now (number / 4294967296)) (number % 4294967296) d }
 {
     let revision = &revisions[(number / SPAN) as usize];
     revision.places.get()[(number % SPAN) as usize].get()
@@ -305,7 +309,8 @@ fn place_of(revisions: &[FlatRevision], number: u64) -> &Place
 fn number_of(rev: u32, places: &[Shared<Place>], path: &Path) -> Option<NodeId>
     requires short { length places.now ≤ 4294967296 }
     requires sorted { IsTrue (in_order (tree_in places.now)) }
-    ensures { result ≡ option_map (λ p. p.id) (find (slice_cmp nat_cmp) path.now (numbered_from rev 0 places.now)) }
+    ensures { result
+        ≡ option_map (λ p. p.id) (find (slice_cmp nat_cmp) path.now (numbered_from rev 0 places.now)) }
 {
     match search(places, path.text()) {
         Ok(index) => Some(NodeId::of(u64::from(rev) * SPAN + index as u64)),
