@@ -1,5 +1,5 @@
 pub mod Access
 pub mod Everywhere
-pub mod Kept
+pub mod Policies
 pub mod Order
 pub mod Weights

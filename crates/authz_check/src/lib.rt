@@ -2,7 +2,6 @@
 //! Book, chapter "Server Configuration", "Path-Based Authorization").
 #![tactic(auto)]
 
-mod copying;
 mod demand;
 mod matching;
 mod order;

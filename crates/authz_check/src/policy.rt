@@ -3,11 +3,10 @@ ghost use Rattle.std.specs.List.{list_all};
 ghost use Rattle.std.specs.Option.{option_copied};
 ghost use Rattle.std.specs.Str.{bytes_eq};
 ghost use Rattle.dsv_base.specs.Paths.{is_under};
-ghost use Rattle.authz_check.specs.Access.{access, right_at};
+ghost use Rattle.authz_check.specs.Access.{access, can_read, right_at};
 ghost use Rattle.authz_check.specs.Everywhere.{all_access, closed, everywhere, section_paths, tested, speaks_of, meets, at_least, is_no, HoldsUnder};
 ghost use Rattle.authz_check.specs.Order.{HasEach, section_rule_at};
 
-use crate::copying::copy_rules;
 use crate::demand::Demand;
 use crate::matching::meets;
 use crate::order::{order_of, places_at, places_below};
@@ -30,10 +29,10 @@ pub struct Policy {
 }
 
 impl Model for Policy {
-    ghost use Rattle.authz_check.specs.Kept.{Kept};
+    ghost use Rattle.authz_check.specs.Policies.{PolicyState};
     ghost use Rattle.authz_check.specs.Order.{IsOrder};
 
-    ghost Value = { Kept };
+    ghost Value = { PolicyState };
 
     ghost view = { λ p. record { rules = p.rules; name = p.name } };
 
@@ -47,7 +46,7 @@ impl Policy {
         ensures { IfOk result (λ p. p ≡ record { rules = rules.now.list; name = repos.now }) }
     {
         let name = Bytes::of(alloc, repos)?;
-        let rules = copy_rules(alloc, rules.list.get())?;
+        let rules = rules.copy(alloc)?.list;
         let order = order_of(alloc, rules.get(), name.get())?;
         Ok(Policy { rules, name, order })
     }
@@ -70,6 +69,17 @@ impl Policy {
                 Some(parent) => at = parent,
                 None => return Right::No,
             }
+        }
+    }
+
+    /// Whether the user may read the path: whether the right there is one to read.
+    #[tactic(auto, unfolding(crate::specs::Access::can_read))]
+    pub fn can_read(&self, user: Option<&[u8]>, path: &Path) -> bool
+        ensures { result ≡ can_read self.now.rules self.now.name (option_copied user.entry) path.now }
+    {
+        match self.access(user, path) {
+            Right::No => false,
+            Right::Read | Right::Write => true,
         }
     }
 

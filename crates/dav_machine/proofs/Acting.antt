@@ -1,29 +1,29 @@
 -- As yet nothing is ever done: a history has no entries, and no state is replayed into another.
-use Rattle.std.proofs.Common.{◌≡◌, ℕ, false, List, [], ◌∷◌, length, refl, sym, ap, subst, inl, suc, arith}
+use Rattle.std.proofs.Common.{◌≡◌, ℕ, ◌+◌, ◌≤◌, false, List, [], ◌∷◌, length, refl, sym, ap, subst, inl, suc, arith}
+use Rattle.dsv_outside.specs.Causes.{last_count}
 use Rattle.dav_machine.specs.declared.answer.Answer.{Answer}
 use Rattle.dav_machine.specs.declared.call.Call.{Call}
 use Rattle.dav_machine.specs.declared.event.Event.{Event}
-use Rattle.dav_machine.specs.Histories.{Entry, replay}
-use Rattle.dav_machine.specs.Hubs.{entries_of, events_of}
-use Rattle.dav_machine.specs.States.{State}
-use Rattle.dav_machine.specs.Turns.{Turned, RepliesOnly}
-use Rattle.dav_machine.proofs.Talking.{IsPrefix-refl}
+use Rattle.dav_machine.specs.Histories.{HistoryEntry, replay}
+use Rattle.dav_machine.specs.Hubs.{IsHubOf, entries_of, events_of}
+use Rattle.dav_machine.specs.States.{State, youngest_of}
+use Rattle.dav_machine.specs.Turns.{Acted, RepliesOnly}
 
-no_entries : (entries : List Entry) → entries ≡ []
-no_entries [] = refl
-no_entries (entry ∷ entries) = elim entry.event.effect [ ]
+-- nothing is done yet
+pub opened : (opening state : State) (first now : ℕ) → state ≡ opening → now ≡ first → IsHubOf opening state [] first now
+opened opening state first now same count = record {
+  replayed = same;
+  counted = let a = ap youngest_of same in omega (arith, a);
+  failed = inl (omega (arith, count));
+}
 
-replay_is_opening : (opening : State) (entries : List Entry) → replay opening entries ≡ opening
-replay_is_opening opening entries = ap (replay opening) (no_entries entries)
-
--- an answer over the opening state, after which the history is the same
-pub answered : (opening : State) (history : List Entry) (pass : ℕ) (call : Call) (answer : Answer)
-    → RepliesOnly opening call answer.bytes → answer.front ≡ length history → answer.own ≡ false
-    → Turned opening history pass call answer history
-answered opening history pass call answer replies at_front not_own = inl (record {
-  grown = IsPrefix-refl history;
-  owned = refl;
-  bytes = subst (λ (state : State). RepliesOnly state call answer.bytes) (sym (replay_is_opening opening history)) replies;
+-- an answer over the present state, after which the history is the same
+pub answered : (opening state : State) (history : List HistoryEntry) (first now : ℕ) (call : Call) (answer : Answer)
+    → IsHubOf opening state history first now → RepliesOnly state call answer.bytes → answer.front ≡ length history → answer.own ≡ false
+    → Acted opening history call answer history
+answered opening state history first now call answer hub replies at_front not_own = inl (record {
+  same = refl;
+  bytes = subst (λ (s : State). RepliesOnly s call answer.bytes) hub.replayed replies;
   at_front = at_front;
   not_own = not_own;
 })

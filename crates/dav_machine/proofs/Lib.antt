@@ -1,7 +1,8 @@
-mod Shown
+mod Getting
 mod Listed
 mod Fields
 pub mod Talking
+pub mod Turning
 mod Acting
-mod ReadingAlone
+mod Refused
 mod HiddenPaths

@@ -16,12 +16,11 @@ use Rattle.rev_nodes.specs.Trees.{TreeNode, Tree}
 use Rattle.rev_nodes.specs.Forests.{Numbered, Forest, repository_of, tree_of, places_at, place_at, id_at}
 use Rattle.rev_nodes.specs.Entries.{is_child, entry_in, entries_in, IsSoundPlace, IsSound}
 use Rattle.dav_machine.specs.Listings.{Child, children_in}
-use Rattle.dav_machine.specs.Shown.{child_with, shown_entry, shown_entries, StandsIn}
+use Rattle.dav_machine.specs.ShownEntries.{child_with, shown_entry, shown_entries, StandsIn}
 use Rattle.authz_file.specs.declared.rule.Rule.{Rule}
 use Rattle.authz_check.specs.Access.{can_read}
-use Rattle.dav_machine.specs.States.{opening_state}
-use Rattle.dav_machine.specs.Views.{shown_node, shown_nodes, view_of, nodes_in}
-use Rattle.dav_machine.proofs.Shown.{nodes_in-view}
+use Rattle.log_access.specs.Shown.{shown_node, shown_nodes, shown_of, nodes_in}
+use Rattle.log_access.proofs.ShownNodes.{nodes_in-shown}
 
 -- a child's parent is the directory
 parent_of : (directory : List ℕ) (parent : Option (List ℕ)) → option_map_or (bytes_eq directory) parent false ≡ true → parent ≡ Some directory
@@ -95,10 +94,10 @@ module _ (forest : Forest) (rev : ℕ) (directory : List ℕ) where
 
 -- the children that a view has of a directory are those that are shown of its entries
 pub children_are : (forest : Forest) (rules : List Rule) (user : Option (List ℕ)) (rev : ℕ) (path : List ℕ) (entries : List Entry) → IsSound forest → entries ≡ entries_in path (places_at forest rev)
-    → children_in (nodes_in (view_of (opening_state (repository_of forest) rules) user) rev) path ≡ shown_entries (can_read rules forest.name user) forest rev path entries
+    → children_in (nodes_in (shown_of (repository_of forest) rules user) rev) path ≡ shown_entries (can_read rules forest.name user) forest rev path entries
 unfolding entries_in
 children_are forest rules user rev path entries sound are =
-    ap (λ (nodes : Tree). children_in nodes path) (nodes_in-view forest rules user rev)
+    ap (λ (nodes : Tree). children_in nodes path) (nodes_in-shown forest rules user rev)
     ∙ shown_children forest rev path (can_read rules forest.name user) (places_at forest rev) (sound.places rev)
     ∙ ap (shown_entries (can_read rules forest.name user) forest rev path) (sym are)
 

@@ -3,18 +3,18 @@ use Rattle.std.proofs.Common.{ℕ, List, [], ◌∷◌, ◌++◌, refl, subst, �
 use Rattle.http_front.specs.declared.request.Request.{Request}
 use Rattle.dav_machine.specs.declared.answer.Answer.{Answer}
 use Rattle.dav_machine.specs.declared.call.Call.{Call}
-use Rattle.dav_machine.specs.Histories.{Entry, IsPrefix}
+use Rattle.dav_machine.specs.Histories.{HistoryEntry, IsPrefix}
 use Rattle.dav_machine.specs.States.{State}
 use Rattle.dav_machine.specs.Turns.{Turned}
 use Rattle.dav_machine.specs.Talks.{Talk, call_of, output_of}
 
 module _ (opening : State) (pass : ℕ) where
   -- nothing is said yet
-  pub Talk-empty : (front : List Entry) → Talk opening front pass [] [] [] front
+  pub Talk-empty : (front : List HistoryEntry) → Talk opening front pass [] [] [] front
   Talk-empty front = refl
 
   -- one call more, at the end
-  pub Talk-push : (front : List Entry) (requests : List Request) (moments : List ℕ) (outputs : List (List ℕ)) (middle later : List Entry) (request : Request) (moment : ℕ) (answer : Answer)
+  pub Talk-push : (front : List HistoryEntry) (requests : List Request) (moments : List ℕ) (outputs : List (List ℕ)) (middle later : List HistoryEntry) (request : Request) (moment : ℕ) (answer : Answer)
       → Talk opening front pass requests moments outputs middle
       → Turned opening middle pass (call_of pass request moment) answer later
       → Talk opening front pass (requests ++ request ∷ []) (moments ++ moment ∷ []) (outputs ++ output_of request answer.bytes ∷ []) later
@@ -29,21 +29,21 @@ module _ (opening : State) (pass : ℕ) where
 
 -- ---- histories grow
 
-pub IsPrefix-refl : (front : List Entry) → IsPrefix front front
+pub IsPrefix-refl : (front : List HistoryEntry) → IsPrefix front front
 IsPrefix-refl front = ([], sym (append-nil front))
 
-pub IsPrefix-trans : (front middle later : List Entry) → IsPrefix front middle → IsPrefix middle later → IsPrefix front later
-IsPrefix-trans front middle later p q = (p.0 ++ q.0, q.1 ∙ ap (λ (entries : List Entry). entries ++ q.0) p.1 ∙ append_assoc front p.0 q.0)
+pub IsPrefix-trans : (front middle later : List HistoryEntry) → IsPrefix front middle → IsPrefix middle later → IsPrefix front later
+IsPrefix-trans front middle later p q = (p.0 ++ q.0, q.1 ∙ ap (λ (entries : List HistoryEntry). entries ++ q.0) p.1 ∙ append_assoc front p.0 q.0)
 
 module _ (opening : State) (pass : ℕ) where
-  pub Turned-grown : (front later : List Entry) (call : Call) (answer : Answer) → Turned opening front pass call answer later → IsPrefix front later
+  pub Turned-grown : (front later : List HistoryEntry) (call : Call) (answer : Answer) → Turned opening front pass call answer later → IsPrefix front later
   Turned-grown front later call answer turned = elim turned [
     | inl only ↦ only.grown
     | inr more ↦ IsPrefix-trans front more.before later more.grown (more.entry ∷ [], more.made)
   ]
 
-  pub Talk-grown : (front : List Entry) (requests : List Request) (moments : List ℕ) (outputs : List (List ℕ)) (later : List Entry) → Talk opening front pass requests moments outputs later → IsPrefix front later
-  Talk-grown front [] [] [] later talk = subst (λ (to : List Entry). IsPrefix front to) (sym talk) (IsPrefix-refl front)
+  pub Talk-grown : (front : List HistoryEntry) (requests : List Request) (moments : List ℕ) (outputs : List (List ℕ)) (later : List HistoryEntry) → Talk opening front pass requests moments outputs later → IsPrefix front later
+  Talk-grown front [] [] [] later talk = subst (λ (to : List HistoryEntry). IsPrefix front to) (sym talk) (IsPrefix-refl front)
   Talk-grown front [] [] (o ∷ os) later talk = absurd talk
   Talk-grown front [] (m ∷ ms) outputs later talk = absurd talk
   Talk-grown front (r ∷ rs) [] outputs later talk = absurd talk

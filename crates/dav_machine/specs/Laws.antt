@@ -1,31 +1,57 @@
 -- What holds of all replies.
-use Rattle.std.specs.Prelude.{ℕ, ◌≡◌, true, false, List, Option, None, Some}
-use Rattle.std.specs.Option.{option_and_then}
+use Rattle.std.specs.Prelude.{ℕ, ◌≡◌, Bool, true, false, List, Option, None, Some, Err}
+use Rattle.std.specs.Option.{option_and_then, option_map_or}
 use Rattle.http_front.specs.declared.request.Request.{Request}
 use Rattle.authz_check.specs.Access.{can_read}
-use Rattle.dav_names.specs.declared.resource.Resource.{Resource}
-use Rattle.dav_names.specs.declared.resource.Resource.TheVariants as named
 use Rattle.dav_names.specs.Targets.{target, root_of}
+use Rattle.dav_replies.specs.Methods.{method_of}
+use Rattle.dav_replies.specs.declared.method.Method.{Method}
+use Rattle.dav_replies.specs.declared.method.Method.TheVariants.{Options, Get, Head, Propfind}
+use Rattle.dav_replies.specs.declared.refusal.Refusal.{Refusal}
 use Rattle.dav_machine.specs.AllReplies.{is_reading, reply_to}
-use Rattle.dav_machine.specs.ReadReplies.{viewer}
+use Rattle.dav_machine.specs.Chains.{permitted, viewer, path_in}
 use Rattle.dav_machine.specs.States.{State}
 use Rattle.dav_machine.specs.Views.{view_of}
 
--- a reading request is answered alike in any two states that show its user the same, at any moments
+-- a reading request is answered alike in any two states that show its user the same, at any moments, whatever the keeper
+-- would do
 abbrev pub ShownAlikeAnsweredAlike : Type 0
-ShownAlikeAnsweredAlike = (one other : State) (request : Request) (moment later : ℕ) → is_reading request.method ≡ true → view_of one (viewer request.login) ≡ view_of other (viewer request.login) → reply_to one request moment ≡ reply_to other request later
+ShownAlikeAnsweredAlike =
+    (one other : State) (request : Request) (moment later : ℕ) (kept held : Bool)
+    → is_reading request ≡ true
+    → view_of one (viewer request.login) ≡ view_of other (viewer request.login)
+    → reply_to one request moment kept ≡ reply_to other request later held
 
--- the path of a revision's tree that a resource names
-abbrev pub path_in : Resource → Option (List ℕ)
-path_in (named.Public path) = Some path
-path_in (named.Rvr rev path) = Some path
-path_in resource = None
+-- a request that target, method, headers, login, body or rule refuses is answered alike in any two states of the same
+-- name and rules
+abbrev pub RefusedAlike : Type 0
+RefusedAlike =
+    (one other : State) (request : Request) (refusal : Refusal) (moment later : ℕ) (kept held : Bool)
+    → one.repository.name ≡ other.repository.name
+    → one.rules ≡ other.rules
+    → permitted one.repository.name one.rules request ≡ Err refusal
+    → reply_to one request moment kept ≡ reply_to other request later held
 
--- .. that a request's target names
-abbrev pub path_asked : State → Request → Option (List ℕ)
-path_asked state request = option_and_then path_in (target (root_of state.name) request.target)
+-- the methods whose aim the target alone names
+abbrev pub aims_at_target : Method → Bool
+aims_at_target Options = true
+aims_at_target Get = true
+aims_at_target Head = true
+aims_at_target Propfind = true
+aims_at_target _ = false
 
--- a reading request for a path that its user may not read is answered alike in any two states of the same
--- name and rules, whatever stands there or anywhere else
+-- the path whose rule such a request asks, if there is one
+abbrev pub path_asked : List ℕ → Request → Option (List ℕ)
+path_asked name request = option_and_then path_in (target (root_of name) request.target)
+
+-- an OPTIONS, a GET, a HEAD or a PROPFIND that asks of a path which its user may not read is answered alike in any two
+-- states of the same name and rules, whatever stands there or anywhere else
 abbrev pub HiddenAnsweredAlike : Type 0
-HiddenAnsweredAlike = (one other : State) (request : Request) (path : List ℕ) (moment later : ℕ) → is_reading request.method ≡ true → one.name ≡ other.name → one.rules ≡ other.rules → path_asked one request ≡ Some path → can_read one.rules one.name (viewer request.login) path ≡ false → reply_to one request moment ≡ reply_to other request later
+HiddenAnsweredAlike =
+    (one other : State) (request : Request) (path : List ℕ) (moment later : ℕ) (kept held : Bool)
+    → option_map_or aims_at_target (method_of request.method) false ≡ true
+    → one.repository.name ≡ other.repository.name
+    → one.rules ≡ other.rules
+    → path_asked one.repository.name request ≡ Some path
+    → can_read one.rules one.repository.name (viewer request.login) path ≡ false
+    → reply_to one request moment kept ≡ reply_to other request later held

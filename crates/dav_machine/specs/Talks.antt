@@ -7,11 +7,12 @@ use Rattle.dav_machine.specs.declared.answer.Answer.{Answer}
 use Rattle.dav_machine.specs.declared.call.Call.{Call}
 use Rattle.dav_machine.specs.declared.outgoing.Outgoing.{Outgoing}
 use Rattle.dav_machine.specs.declared.outgoing.Outgoing.TheVariants as outgoing
-use Rattle.dav_machine.specs.Histories.{Entry}
-use Rattle.dav_machine.specs.ReadReplies.{is_head}
+use Rattle.dav_machine.specs.Histories.{HistoryEntry}
+use Rattle.dav_machine.specs.Chains.{is_head}
 use Rattle.dav_machine.specs.States.{State}
 use Rattle.dav_machine.specs.Turns.{Turned}
 
+-- a call of this pass, for this request at this moment
 abbrev pub call_of : ℕ → Request → ℕ → Call
 call_of pass request moment = record { pass = pass; request = request; moment = moment }
 
@@ -22,11 +23,15 @@ output_of request outgoing.NoMemory = refusal_bytes NoMemory (is_head request) r
 
 -- these requests at these moments have these outputs, between the history at the last call's point before
 -- them and that at the last one's
-abbrev pub Talk : State → List Entry → ℕ → List Request → List ℕ → List (List ℕ) → List Entry → Type 0
+abbrev pub Talk : State → List HistoryEntry → ℕ → List Request → List ℕ → List (List ℕ) → List HistoryEntry → Type 0
 Talk opening front pass [] [] [] later = later ≡ front
 Talk opening front pass [] [] (output ∷ outputs) later = ⊥
 Talk opening front pass [] (moment ∷ moments) outputs later = ⊥
 Talk opening front pass (request ∷ requests) [] outputs later = ⊥
 Talk opening front pass (request ∷ requests) (moment ∷ moments) [] later = ⊥
 Talk opening front pass (request ∷ requests) (moment ∷ moments) (output ∷ outputs) later =
-    (middle : List Entry) × (answer : Answer) × Turned opening front pass (call_of pass request moment) answer middle × (output ≡ output_of request answer.bytes) × Talk opening middle pass requests moments outputs later
+    (middle : List HistoryEntry)
+    × (answer : Answer)
+    × Turned opening front pass (call_of pass request moment) answer middle
+    × (output ≡ output_of request answer.bytes)
+    × Talk opening middle pass requests moments outputs later

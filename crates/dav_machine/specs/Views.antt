@@ -1,64 +1,12 @@
--- What a user may see of a state, and all that a reading reply may depend on. As yet that is what the
--- reply to a GET depends on: the record of a revision (its author, moment and changed paths) and the
--- locks come with the requests that show them.
-use Rattle.std.specs.Prelude.{ℕ, ◌-◌, Bool, not, ◌&&◌, false, List, [], Option, None, Some, map, filter, length, slice_index_or, if◌then◌else◌}
-use Rattle.std.specs.Option.{option_and_then, option_map_or}
-use Rattle.std.specs.List.{filter_map}
-use Rattle.dsv_base.specs.Paths.{parent_text}
-use Rattle.rev_nodes.specs.declared.kind.Kind.{Kind}
-use Rattle.rev_nodes.specs.Trees.{TreeNode, Tree, at, Revision}
-use Rattle.authz_file.specs.declared.rule.Rule.{Rule}
-use Rattle.authz_check.specs.Access.{can_read}
+-- What a user may see of a state, and all that a reading reply may depend on.
+use Rattle.std.specs.Prelude.{ℕ, List, Option}
+use Rattle.log_access.specs.Shown.{Shown, shown_of}
 use Rattle.dav_machine.specs.States.{State}
 
--- the source of a copy is shown only where it is readable
-abbrev pub shown_source : (List ℕ → Bool) → Option (List ℕ × ℕ) → Option (List ℕ × ℕ)
-shown_source reads source = option_and_then (λ from. if reads from.0 then Some from else None) source
-
-abbrev pub shown_node : (List ℕ → Bool) → TreeNode → TreeNode
-shown_node reads found = record { node = found.node; line = record { since = found.line.since; source = shown_source reads found.line.source } }
-
--- the readable nodes, as they are shown
-abbrev pub shown_nodes : (List ℕ → Bool) → Tree → Tree
-shown_nodes reads tree = map (λ place. (place.0, shown_node reads place.1)) (filter (λ place. reads place.0) tree)
-
--- an unreadable child of a readable directory, by its path and kind
-abbrev pub hidden_child : (List ℕ → Bool) → List ℕ × TreeNode → Option (List ℕ × Kind)
-hidden_child reads place = if not (reads place.0) && option_map_or reads (parent_text place.0) false then Some (place.0, place.1.node.kind) else None
-
--- a revision, as it is shown
-pub record ShownRevision : Type 0 where
-  pub nodes : Tree
-  pub hidden : List (List ℕ × Kind)
-
-abbrev pub shown_revision : (List ℕ → Bool) → Revision → ShownRevision
-shown_revision reads revision = record { nodes = shown_nodes reads revision.tree; hidden = filter_map (hidden_child reads) revision.tree }
-
+-- what is shown of the repository; as yet there are no locks, whose readable ones belong to it too
 pub record View : Type 0 where
-  pub name : List ℕ
-  pub uuid : List ℕ
-  pub rules : List Rule
-  pub youngest : ℕ
-  pub revisions : List ShownRevision
+  pub shown : Shown
 
 -- what a user, who has a name or is nobody, may see
-unfoldable pub view_of : State → Option (List ℕ) → View
-view_of state user = record {
-  name = state.name;
-  uuid = state.uuid;
-  rules = state.rules;
-  youngest = length state.revisions - 1;
-  revisions = map (shown_revision (can_read state.rules state.name user)) state.revisions;
-}
-
--- past the youngest revision nothing is shown
-abbrev pub shown_nothing : ShownRevision
-shown_nothing = record { nodes = []; hidden = [] }
-
--- the shown nodes of a revision
-abbrev pub nodes_in : View → ℕ → Tree
-nodes_in view rev = (slice_index_or view.revisions rev shown_nothing).nodes
-
--- the shown node at a path of a revision
-abbrev pub node_in : View → ℕ → List ℕ → Option TreeNode
-node_in view rev path = at path (nodes_in view rev)
+abbrev pub view_of : State → Option (List ℕ) → View
+view_of state user = record { shown = shown_of state.repository state.rules user }

@@ -1,47 +1,63 @@
-ghost use Rattle.std.specs.Prelude.{◌≡◌, IfOk, MatchResult, length};
-ghost use Rattle.dav_machine.specs.Hubs.{HubState, opening_of, new_hub, events_of};
-ghost use Rattle.dav_machine.specs.Turns.{Turned, RepliesOnly};
+ghost use Rattle.std.specs.Prelude.{◌≡◌, ◌<◌, ◌^◌, IfOk, MatchResult, length};
+ghost use Rattle.http_front.specs.Logins.{IsNamed};
+ghost use Rattle.dav_machine.specs.Hubs.{HubState, IsHubOf, present_state, new_hub, events_of};
+ghost use Rattle.dav_machine.specs.Turns.{Acted, RepliesOnly};
 
 use crate::answer::Answer;
 use crate::call::Call;
+use crate::chain::is_head;
 use crate::event::Event;
 use crate::outgoing::Outgoing;
-use crate::reading::is_head;
+use crate::present::Present;
 use crate::replying::reply_to;
-use crate::site::Site;
 use authz_check::Policy;
-use dav_names::root_of;
 use dav_replies::reply_bytes;
 use dsv_base::{Bytes, NoMemory};
 use dsv_outside::Keeper;
 use rev_trees::Trees;
 use std::alloc::Global;
 use std::marker::Model;
+use std::snapshot::Snapshot;
 
 /// The repository machine: the trees and the rights in them, what was done to them since it began, and
-/// the keeper of what is done. Contracts see these four.
+/// the keeper of what is done. Contracts see these, and beside them the state and the keeper that it
+/// began with.
 #[derive(Drop)]
 pub struct Hub<K: Keeper> {
     alloc: Global,
-    trees: Trees,
-    policy: Policy,
-    /// The path of the repository in targets: `/svn/NAME`.
-    root: Bytes,
+    present: Present,
+    /// For contracts alone; it has no bytes.
+    opening: Snapshot<Present>,
     history: Vec<Event>,
     /// For each event the name of its user.
     names: Vec<Bytes>,
     keeper: K,
+    /// For contracts alone; it has no bytes.
+    first_keeper: Snapshot<K>,
 }
 
 impl<K: Keeper> Model for Hub<K> {
-    ghost use Rattle.dav_machine.specs.Hubs.{HubState, entries_of};
-    ghost use Rattle.dav_machine.specs.HubFacts.{IsKept};
+    ghost use Rattle.std.specs.Prelude.{◌≡◌, length};
+    ghost use Rattle.dav_machine.specs.Hubs.{HubState, IsHubOf, entries_of};
+    ghost use Rattle.dav_machine.specs.Presents.{state_of};
 
     ghost Value = { HubState K };
 
-    ghost view = { λ h. record { trees = h.trees; policy = h.policy; history = entries_of h.history.items h.names.items; keeper = h.keeper } };
+    ghost view = { λ h. record {
+      opening = state_of h.opening.value;
+      trees = h.present.trees;
+      rules = h.present.rules;
+      history = entries_of h.history.items h.names.items;
+      first_keeper = h.first_keeper.value;
+      keeper = h.keeper;
+    } };
 
-    ghost invariant = { λ h. IsKept h.trees h.policy h.root h.history.items h.names.items };
+    // As yet nothing is done, and the keeper is as it was.
+    ghost invariant = { λ h.
+        (length h.names.items ≡ length h.history.items)
+        × (h.keeper ≡ h.first_keeper.value)
+        × IsHubOf (state_of h.opening.value) (state_of h.present) (entries_of h.history.items h.names.items)
+        (K.faults h.first_keeper.value) (K.faults h.keeper) };
 }
 
 impl<K: Keeper> Hub<K> {
@@ -53,25 +69,31 @@ impl<K: Keeper> Hub<K> {
         requires { policy.name ≡ trees.name }
         ensures { MatchResult result (λ hub. hub ≡ new_hub trees policy keeper) (λ back. back ≡ keeper) }
     {
-        let root = match root_of(alloc, trees.name()) {
-            Ok(root) => root,
+        let present = match Present::of(alloc, trees, policy) {
+            Ok(present) => present,
             Err(NoMemory) => return Err(keeper),
         };
+        let opening = Snapshot::of(&present);
+        let first_keeper = Snapshot::of(&keeper);
         Ok(Hub {
             alloc,
-            trees,
-            policy,
-            root,
+            present,
+            opening,
             history: Vec::new(alloc),
             names: Vec::new(alloc),
             keeper,
+            first_keeper,
         })
     }
 
-    /// Answers a call by the state at the end of the history. As yet no request changes anything, and
-    /// nothing is kept.
+    /// Answers a call by the state at the end of the history, and adds one entry of the call's own to
+    /// it, or none. The name of a user who is logged in has to be one of the users file's grammar. As yet
+    /// no request changes anything, and nothing is kept.
     pub fn act(&mut self, call: &Call) -> Answer
-        ensures turned { Turned (opening_of self.old) self.old.history call.now.pass call.now result self.new.history }
+        requires named { IsNamed call.now.request.login }
+        ensures acted { Acted self.old.opening self.old.history call.now result self.new.history }
+        ensures opening { self.new.opening ≡ self.old.opening }
+        ensures first { self.new.first_keeper ≡ self.old.first_keeper }
         ensures same { self.new ≡ self.old }
     {
         self.answer(call)
@@ -80,8 +102,9 @@ impl<K: Keeper> Hub<K> {
     /// The answer to a call that changes nothing.
     #[tactic(auto, using(crate::proofs::Acting::answered))]
     fn answer(&self, call: &Call) -> Answer
-        ensures { Turned (opening_of self.now) self.now.history call.now.pass call.now result self.now.history }
+        ensures { Acted self.now.opening self.now.history call.now result self.now.history }
     {
+        self.learn();
         Answer {
             bytes: self.outgoing(call),
             front: self.front(),
@@ -90,23 +113,29 @@ impl<K: Keeper> Hub<K> {
     }
 
     /// How many events the history has.
-    fn front(&self) -> u64
-        ensures { result ≡ length self.now.history }
+    pub fn front(&self) -> u64
+        ensures count { result ≡ length self.now.history }
+        ensures bound { length self.now.history < 2 ^ 63 }
     {
         self.history.len() as u64
     }
 
+    /// What holds of each hub, which contracts don't see by themselves: the state is that which the
+    /// history makes of the opening one. As long as no request changes anything, the keeper is as it was.
+    pub fn learn(&self)
+        ensures holds { IsHubOf self.now.opening (present_state self.now) self.now.history
+            (K.faults self.now.first_keeper) (K.faults self.now.keeper) }
+        ensures untouched { self.now.keeper ≡ self.now.first_keeper }
+    {
+        let _count = self.history.len();
+    }
+
     /// The bytes of the reply in the state at the end of the history.
     fn outgoing(&self, call: &Call) -> Outgoing
-        ensures { RepliesOnly (opening_of self.now) call.now result }
+        ensures { RepliesOnly (present_state self.now) call.now result }
     {
-        let site = Site {
-            root: self.root.get(),
-            trees: &self.trees,
-            policy: &self.policy,
-        };
         let request = &call.request;
-        let reply = match reply_to(self.alloc, &site, request) {
+        let reply = match reply_to(self.alloc, &self.present, request) {
             Ok(reply) => reply,
             Err(NoMemory) => return Outgoing::NoMemory,
         };
@@ -127,7 +156,7 @@ impl<K: Keeper> Hub<K> {
     pub fn trees(&self) -> &Trees
         ensures { result.now ≡ self.now.trees }
     {
-        &self.trees
+        self.present.trees()
     }
 
     /// Gives the trees and the keeper back.
@@ -137,13 +166,13 @@ impl<K: Keeper> Hub<K> {
     {
         let Hub {
             alloc: _,
-            trees,
-            policy: _,
-            root: _,
+            present,
+            opening: _,
             history: _,
             names: _,
             keeper,
+            first_keeper: _,
         } = self;
-        (trees, keeper)
+        (present.into_trees(), keeper)
     }
 }

@@ -1,6 +1,7 @@
 ghost use Rattle.std.specs.Prelude.{◌≡◌, ◌++◌, ◌∷◌, IfOk, OnOk, []};
-ghost use Rattle.dav_replies.specs.Replies.{field_of, IsWritable};
-ghost use Rattle.dav_machine.specs.Replies.{content_reply, options_reply, options_fields, server_fields, root_fields, rev_fields, txn_fields, stub_field};
+ghost use Rattle.dav_replies.specs.Replies.{IsWritable, field_of};
+ghost use Rattle.dav_machine.specs.Replies.{content_reply, options_reply, options_fields, server_fields};
+ghost use Rattle.dav_machine.specs.Replies.{root_fields, rev_fields, txn_fields, stub_field};
 
 use dav_replies::{AllowKind, allow_list};
 use dsv_base::{Bytes, Field, List, NoMemory, Reply, Rev};

@@ -1,42 +1,45 @@
-ghost use Rattle.std.specs.Prelude.{◌≡◌, ℕ, IfOk, None};
-ghost use Rattle.dav_names.specs.Targets.{root_of};
+ghost use Rattle.std.specs.Prelude.{◌≡◌, ℕ, Bool, IfOk, None};
+ghost use Rattle.dsv_base.specs.Gives.{GivesBy};
+ghost use Rattle.dav_replies.specs.Faults.{refusal_no_memory};
 ghost use Rattle.dav_replies.specs.Replies.{IsWritable};
-ghost use Rattle.rev_nodes.specs.Forests.{repository_of};
-ghost use Rattle.dav_machine.specs.AllReplies.{is_reading, reply_to};
-ghost use Rattle.dav_machine.specs.States.{opening_state};
+ghost use Rattle.dav_machine.specs.AllReplies.{answered, reply_to};
+ghost use Rattle.dav_machine.specs.Presents.{state_of};
 
-use crate::changing::write_reply;
-use crate::reading::site_reply;
-use crate::site::Site;
+use crate::chain::permitted;
+use crate::present::Present;
+use crate::reading::read_answer;
+use dav_replies::{Refusal, refusal_reply};
 use dsv_base::{NoMemory, Reply};
 use http_front::Request;
 use std::alloc::Global;
 
-/// The reply to any request, whatever the moment. As yet no request changes anything.
+/// The reply to any request, whatever the moment: what is answered, or the first refusal that holds. As yet
+/// no request changes anything.
 ///
 /// # Errors
 /// Want of memory.
-#[tactic(auto, unfolding(crate::specs::AllReplies::reply_to, crate::specs::WriteReplies::write_reply))]
-pub fn reply_to(alloc: Global, site: &Site<'_>, request: &Request) -> Result<Reply, NoMemory>
-    requires name { site.now.policy.now.name ≡ site.now.trees.now.name }
-    requires root { site.now.root.now ≡ root_of site.now.trees.now.name }
-    ensures value { IfOk result (λ reply. (moment : ℕ) → reply_to (opening_state (repository_of site.now.trees.now) site.now.policy.now.rules) request.now moment ≡ (reply, None)) }
+#[tactic(auto, unfolding(crate::specs::AllReplies::reply_to))]
+pub fn reply_to(alloc: Global, present: &Present, request: &Request) -> Result<Reply, NoMemory>
+    ensures value { IfOk result
+        (λ reply. (moment : ℕ) (kept : Bool)
+        → reply_to (state_of present.now) request.now moment kept ≡ (reply, None)) }
     ensures writable { IfOk result IsWritable }
 {
-    if is_reading(request.method.get()) {
-        site_reply(alloc, site, request)
-    } else {
-        write_reply(alloc, site.root, request)
+    match answered(alloc, present, request) {
+        Ok(reply) => Ok(reply),
+        Err(Refusal::NoMemory) => Err(NoMemory),
+        Err(refusal) => refusal_reply(alloc, &refusal),
     }
 }
 
-/// Whether the method is one of reading requests.
-fn is_reading(method: &[u8]) -> bool
-    ensures { result ≡ is_reading method.now }
+/// What is answered, or the first refusal that holds.
+#[tactic(auto, unfolding(crate::specs::AllReplies::answered))]
+fn answered(alloc: Global, present: &Present, request: &Request) -> Result<Reply, Refusal>
+    ensures value { (moment : ℕ) (kept : Bool)
+        → GivesBy (λ reply. (reply, None)) refusal_no_memory result
+        (answered (state_of present.now) request.now moment kept) }
+    ensures writable { IfOk result IsWritable }
 {
-    method == b"OPTIONS".as_slice()
-        || method == b"GET".as_slice()
-        || method == b"HEAD".as_slice()
-        || method == b"PROPFIND".as_slice()
-        || method == b"REPORT".as_slice()
+    let permit = permitted(alloc, present, request)?;
+    read_answer(alloc, present, permit.user, permit.asked, &permit.resource)
 }

@@ -39,11 +39,13 @@ impl<K: Keeper> Solo<K> {
 }
 
 impl<K: Keeper> Turn for Solo<K> {
-    ghost use Rattle.dav_machine.specs.Hubs.{opening_of};
+    ghost use Rattle.dav_machine.specs.Origins.{alone};
 
-    ghost opening = { λ s. opening_of s };
+    ghost opening = { λ s. s.opening };
 
     ghost pass = { λ _. 0 };
+
+    ghost origin = { λ s. alone s.opening (K.faults s.first_keeper) (K.kept s.first_keeper) };
 
     ghost front = { λ s. s.history };
 
@@ -51,6 +53,7 @@ impl<K: Keeper> Turn for Solo<K> {
         0
     }
 
+    #[tactic(auto, using(crate::proofs::Turning::acted_turned))]
     fn act(&mut self, call: &Call) -> Answer {
         self.hub.act(call)
     }

@@ -1,6 +1,8 @@
 ghost use Rattle.std.specs.Prelude.{◌≡◌, ℕ, List};
+ghost use Rattle.http_front.specs.Logins.{IsNamed};
 ghost use Rattle.dav_machine.specs.States.{State};
-ghost use Rattle.dav_machine.specs.Histories.{Entry};
+ghost use Rattle.dav_machine.specs.Histories.{HistoryEntry};
+ghost use Rattle.dav_machine.specs.Origins.{Origin};
 ghost use Rattle.dav_machine.specs.Turns.{Turned};
 
 use crate::answer::Answer;
@@ -15,8 +17,11 @@ pub trait Turn {
     /// The number of the pass by which these calls come.
     ghost pass: { Self → ℕ };
 
+    /// Which start the pass is of.
+    ghost origin: { Self → Origin };
+
     /// The history at the last call's point.
-    ghost front: { Self → List Entry };
+    ghost front: { Self → List HistoryEntry };
 
     /// The number of the pass by which these calls come.
     fn pass(&self) -> u64
@@ -24,10 +29,14 @@ pub trait Turn {
 
     /// Answers a call of this pass: with the reply over the state at one point of the history, which is
     /// no earlier than the last call's. The reply's change of the state, if it has one, is the
-    /// history's last entry at that point, and the one entry of this pass that is new.
+    /// history's last entry at that point, and the one entry of this pass that is new. The name of a
+    /// user who is logged in has to be one of the users file's grammar.
     fn act(&mut self, call: &Call) -> Answer
         requires pass { call.now.pass ≡ pass self.old }
-        ensures turned { Turned (opening self.old) (front self.old) (pass self.old) call.now result (front self.new) }
+        requires named { IsNamed call.now.request.login }
+        ensures turned { Turned (opening self.old) (front self.old) (pass self.old)
+            call.now result (front self.new) }
         ensures opening { opening self.new ≡ opening self.old }
-        ensures pass { pass self.new ≡ pass self.old };
+        ensures pass { pass self.new ≡ pass self.old }
+        ensures origin { origin self.new ≡ origin self.old };
 }

@@ -1,7 +1,8 @@
-use Rattle.std.proofs.Common.{sym}
 use Rattle.std.specs.Option.{option_copied}
-use Rattle.dav_machine.proofs.Shown.{get_missing}
+use Rattle.dav_machine.proofs.Getting.{get_missing}
 use Rattle.dav_machine.proofs.reading.get_reply.Goals as goal
 
 pub returns-in-None-clause-value : goal.returns-in-None-clause-value
-returns-in-None-clause-value c = get_missing c.args.site.now.trees.now c.args.site.now.policy.now.rules (option_copied c.args.user) c.args.place.now.rev c.args.place.now.path.now c.args.site.now.root.now c.args.place.now.resource.now c.requires.readable (sym c.in-None.ensures)
+returns-in-None-clause-value c =
+    get_missing c.args.present.now.trees c.args.present.now.rules (option_copied c.args.user) c.args.at.now.rev c.args.at.now.path.now c.args.at.now.resource.now
+    c.trees.result.now c.trees.ensures c.requires.readable c.in-None.ensures

@@ -6,5 +6,5 @@ use Rattle.dav_machine.proofs.hub.Hub.history.Goals as goal
 pub returns : goal.returns
 returns g c =
     c.as_slice.ensures.value
-    ∙ sym (events_of-entries c.self.inside.history.items c.self.inside.names.items c.self.invariant.each_named)
+    ∙ sym (events_of-entries c.self.inside.history.items c.self.inside.names.items c.self.invariant.0)
     ∙ (λ i. events_of (c.self.view_is i).history)

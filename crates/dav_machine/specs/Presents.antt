@@ -1,0 +1,49 @@
+-- The present state, as the program keeps it.
+use Rattle.std.specs.Prelude.{ℕ, ◌≡◌, Bool, List, Option}
+use Rattle.rev_nodes.specs.Forests.{Forest, repository_of}
+use Rattle.authz_check.specs.Access.{can_read}
+use Rattle.authz_check.specs.Policies.{PolicyState}
+use Rattle.authz_file.specs.declared.rule.Rule.{Rule}
+use Rattle.dav_names.specs.Targets.{root_of}
+use Rattle.log_access.specs.Shown.{Shown, shown_of}
+use Rattle.dav_machine.specs.Chains.{IsReadable}
+use Rattle.dav_machine.specs.States.{State, opening_state}
+use Rattle.dav_machine.specs.Views.{View, view_of}
+
+-- trees whose nodes have numbers, and the rules
+pub record PresentState : Type 0 where
+  pub trees : Forest
+  pub rules : List Rule
+
+-- trees and a policy, as contracts see them together
+abbrev pub present_of : Forest → PolicyState → PresentState
+present_of trees policy = record { trees = trees; rules = policy.rules }
+
+-- the state of the machine that this is: the numbers are no part of it
+abbrev pub state_of : PresentState → State
+state_of present = opening_state (repository_of present.trees) present.rules
+
+-- where targets reach the repository
+abbrev pub root_in : PresentState → List ℕ
+root_in present = root_of present.trees.name
+
+-- whether a user may read a path
+abbrev pub may_read : PresentState → Option (List ℕ) → List ℕ → Bool
+may_read present user path = can_read present.rules present.trees.name user path
+
+-- the user may read the path, if there is one
+abbrev pub MayRead : PresentState → Option (List ℕ) → Option (List ℕ) → Type 0
+MayRead present user path = IsReadable present.rules present.trees.name user path
+
+-- what a user is shown of the repository
+abbrev pub shown_to : PresentState → Option (List ℕ) → Shown
+shown_to present user = shown_of (repository_of present.trees) present.rules user
+
+-- what a user may see
+abbrev pub view_to : PresentState → Option (List ℕ) → View
+view_to present user = view_of (state_of present) user
+
+-- the policy is one for the repository of these trees, and this is where targets reach it
+pub record IsPresent (trees : Forest) (policy : PolicyState) (root : List ℕ) : Type 0 where
+  pub same_name : policy.name ≡ trees.name
+  pub is_root : root ≡ root_of trees.name
