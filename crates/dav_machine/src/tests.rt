@@ -22,7 +22,7 @@ Content-Length: 36\r
 
 fn hub_of(alloc: Global) -> Option<Hub<SureKeeper>> {
     let first = Commit {
-        author: Bytes::of(alloc, b"").ok()?,
+        author: Bytes::from_vec(Vec::new(alloc)),
         moment: Moment::of(0)?,
         props: List::of(Vec::new(alloc)),
         changes: List::of(Vec::new(alloc)),

@@ -20,8 +20,8 @@ put_entries-requires c =
     let rev = c.args.at.now.rev in
     let path = c.args.at.now.path.now in
     let sound : IsSound trees = subst (λ (f : Forest). IsSound f) c.trees.ensures c.entries-entries.ensures.sound in
-    let are = subst (λ (f : Forest). c.entries-entries.result.now ≡ entries_in path (places_at f rev)) c.trees.ensures (c.entries-entries.ensures.are rev path (ap (λ (f : Forest). id_at f rev path) c.trees.ensures ∙ c.requires)) in
-    subst (λ (entries : List Entry). All (StandsIn trees rev path) entries) (sym are) (entries_stand trees rev path sound)
+    let are = subst (λ (f : Forest). c.entries-entries.result.now ≡ entries_in path (places_at f rev)) c.trees.ensures (c.entries-entries.ensures.are rev path (ap (λ (f : Forest). id_at f rev path) c.trees.ensures ∙ c.requires.number)) in
+    record { stand = subst (λ (entries : List Entry). All (StandsIn trees rev path) entries) (sym are) (entries_stand trees rev path sound) }
 
 pub returns : goal.returns
 unfolding listing_text
@@ -33,7 +33,7 @@ returns c =
     let path = c.args.at.now.path.now in
     let entries = c.entries-entries.result.now in
     let sound : IsSound trees = subst (λ (f : Forest). IsSound f) c.trees.ensures c.entries-entries.ensures.sound in
-    let are = subst (λ (f : Forest). c.entries-entries.result.now ≡ entries_in path (places_at f rev)) c.trees.ensures (c.entries-entries.ensures.are rev path (ap (λ (f : Forest). id_at f rev path) c.trees.ensures ∙ c.requires)) in
+    let are = subst (λ (f : Forest). c.entries-entries.result.now ≡ entries_in path (places_at f rev)) c.trees.ensures (c.entries-entries.ensures.are rev path (ap (λ (f : Forest). id_at f rev path) c.trees.ensures ∙ c.requires.number)) in
     let shown : List Child = shown_entries (can_read rules trees.name user) trees rev path entries in
     let tree : Written = for_each (item_of (root_of trees.name) c.args.at.now.resource.now path) shown in
     let written : c.put_entries.new.out ≡ with_elements tree c.in_ok-out.out = c.in_ok-put_entries.ensures in
