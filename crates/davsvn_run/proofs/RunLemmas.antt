@@ -5,6 +5,7 @@ use Rattle.dsv_outside.specs.Causes.{HasCause, Rose}
 use Rattle.dsv_outside.proofs.Causes.{Rose-earlier}
 use Rattle.authz_file.specs.declared.rules.Rules.{Rules}
 use Rattle.http_front.specs.declared.user.User.{User}
+use Rattle.rev_nodes.specs.Forests.{repository_of}
 use Rattle.rev_nodes.specs.Trees.{Repository}
 use Rattle.davsvn_run.specs.declared.end.End.{End}
 use Rattle.davsvn_run.specs.declared.end.End.TheVariants.{Well, Usage, BadFile, BrokeOff, ReadFault, WriteFault, FileFault, NoMemory, OtherRight}
@@ -209,29 +210,54 @@ module _ {S K E C F P : Type 0} (p q : WorldState S K E C F P) (errors : E) (tak
 
 -- ---- a world by its parts
 
+-- the world `p`, which `p0` gives by its parts, is opened: its files are read, and its connection is served
+module _ {S K E C F P : Type 0} (p0 p q : WorldState S K E C F P) (same : p0 ≡ p) (files : F) (contents : Contents) (faults : ℕ) where
+  abbrev read_world : WorldState S K E C F P
+  read_world = record p0 { files = files; told = record p0.told { contents = contents; file_faults = faults } }
+
+  pub served_at : (names : FileNames) (inputs : Inputs) → Opens p0.told.contents names (repository_of inputs.trees) inputs.rules inputs.users → (ended : ServeEnd) → ServingSays inputs read_world q ended → PipeSays names p q (end_of_serving ended)
+  served_at names inputs opens ended serving =
+      subst (λ (w : WorldState S K E C F P). PipeSays names w q (end_of_serving ended)) same
+          (served_run names p0 q (repository_of inputs.trees) inputs.rules inputs.users opens ended serving.served serving.read serving.written)
+
+-- .. or its sink takes a right; what is said speaks neither of the files nor of the errors
+module _ {S K E C F P : Type 0} (p0 p : WorldState S K E C F P) (same : p0 ≡ p) (sink : K) (taken : Option (List ℕ)) (write_faults file_faults : ℕ) where
+  abbrev put_world : WorldState S K E C F P
+  put_world = record p0 { sink = sink; told = record p0.told { taken = taken; write_faults = write_faults; file_faults = file_faults } }
+
+  pub asked_at : (question : Question) (path : List ℕ) (rules : Rules) → AreRules p0.told.contents question.rules rules → (end : End) → TellSays question.expected (right_asked rules.list question path) p0.told.taken taken (Rose p0.told.write_faults write_faults) end → AskSays question path p put_world end
+  asked_at question path rules are end told =
+      subst (λ (w : WorldState S K E C F P). AskSays question path w put_world end) same (told_right question path p0 put_world rules are end told)
+
 module _ {S K E C F P : Type 0} (p0 p q : WorldState S K E C F P) (same : p0 ≡ p) where
-  pub asks_at : (question : Question) (path : List ℕ) (end : End) → AskSays question path p0 q end → AskSays question path p q end
-  asks_at question path end s = subst (λ (w : WorldState S K E C F P). AskSays question path w q end) same s
-
-  pub pipes_at : (names : FileNames) (end : End) → PipeSays names p0 q end → PipeSays names p q end
-  pipes_at names end s = subst (λ (w : WorldState S K E C F P). PipeSays names w q end) same s
-
   pub serves_at : (inputs : Inputs) (ended : ServeEnd) → ServingSays inputs p0 q ended → ServingSays inputs p q ended
   serves_at inputs ended s = subst (λ (w : WorldState S K E C F P). ServingSays inputs w q ended) same s
 
 -- the world after the line was put, where it was `q` before, which `q0` gives by its parts
-module _ {S K E C F P : Type 0} (p q0 q : WorldState S K E C F P) (same : q0 ≡ q) (errors : E) (taken : Option (List ℕ)) (faults : ℕ) where
-  abbrev after : WorldState S K E C F P
-  after = record q0 { errors = errors; told = record q0.told { errors_taken = taken; error_faults = faults } }
+module _ {S K E C F P : Type 0} (p q0 q : WorldState S K E C F P) (same : q0 ≡ q) where
+  works_before : (words : Option Command) (end : End) → WorkSays words p q end → WorkSays words p q0 end
+  works_before words end s = subst (λ (w : WorldState S K E C F P). WorkSays words p w end) (sym same) s
 
-  pub works_after : (words : Option Command) (end : End) → WorkSays words p q end → WorkSays words p after end
-  works_after words end s =
-      says_reported p q0 errors taken faults words end (subst (λ (w : WorldState S K E C F P). WorkSays words p w end) (sym same) s)
+  -- source and clock are what the line found
+  pub reached_after : (words : Option Command) (end : End) → WorkSays words p q end → IsUnread p q0 ⊎ ForPipe words (AreOpen p.told.contents)
+  reached_after words end s = says_reached p q0 words end (works_before words end s)
 
-  pub reported_after : (end : End) → IsUnreported p q → TookLine q0.told.errors_taken taken (line_of end) (Rose q0.told.error_faults faults) → (line_of end ≡ [] → errors ≡ q0.errors) → IsReported end p after
-  reported_after end kept line quiet =
-      let before : IsUnreported p q0 = subst (λ (w : WorldState S K E C F P). IsUnreported p w) (sym same) kept in (
-        subst (λ (t : Option (List ℕ)). TookLine t taken (line_of end) (Rose p.told.error_faults faults)) before.1
-            (subst (λ (n : ℕ). TookLine q0.told.errors_taken taken (line_of end) (Rose n faults)) before.2 line),
-        λ none. quiet none ∙ before.0,
-      )
+  module _ (errors : E) (taken : Option (List ℕ)) (faults : ℕ) where
+    abbrev after : WorldState S K E C F P
+    after = record q0 { errors = errors; told = record q0.told { errors_taken = taken; error_faults = faults } }
+
+    works_after : (words : Option Command) (end : End) → WorkSays words p q end → WorkSays words p after end
+    works_after words end s = says_reported p q0 errors taken faults words end (works_before words end s)
+
+    reported_after : (end : End) → IsUnreported p q → TookLine q0.told.errors_taken taken (line_of end) (Rose q0.told.error_faults faults) → (line_of end ≡ [] → errors ≡ q0.errors) → IsReported end p after
+    reported_after end kept line quiet =
+        let before : IsUnreported p q0 = subst (λ (w : WorldState S K E C F P). IsUnreported p w) (sym same) kept in (
+          subst (λ (t : Option (List ℕ)). TookLine t taken (line_of end) (Rose p.told.error_faults faults)) before.1
+              (subst (λ (n : ℕ). TookLine q0.told.errors_taken taken (line_of end) (Rose n faults)) before.2 line),
+          λ none. quiet none ∙ before.0,
+        )
+
+    -- what `run` says
+    pub run_says : (words : Option Command) (status : ℕ) (end : End) → status ≡ number_of end → IsUnreported p q → WorkSays words p q end → TookLine q0.told.errors_taken taken (line_of end) (Rose q0.told.error_faults faults) → (line_of end ≡ [] → errors ≡ q0.errors)
+        → (end : End) × (status ≡ number_of end) × IsReported end p after × WorkSays words p after end
+    run_says words status end number kept says line quiet = (end, number, reported_after end kept line quiet, works_after words end says)

@@ -89,9 +89,17 @@ module _ {S K E C F P : Type 0} (p q : WorldState S K E C F P) where
     by_end ends.NoMemory s = inr refl
     by_end ends.OtherRight s = absurd s
 
-  pub whole_run : (words : Option Command) (end : run_end)
+  whole_run : (words : Option Command) (end : run_end)
       → ForPipe words (AreWhole p.told.contents p.told.left) → ¬ (HasFault p.told q.told)
       → WorkSays words p q end → (number_of end ≡ 0) ⊎ (number_of end ≡ 8)
   whole_run None end whole no_fault says = absurd whole
   whole_run (Some (AccessOf question path)) end whole no_fault says = absurd whole
   whole_run (Some (Pipe names)) end whole no_fault says = whole_pipe names p.told.contents p.told.left end refl refl whole no_fault says
+
+-- .. where the world after is `q`, which `q0` gives by its parts
+module _ {S K E C F P : Type 0} (p q0 q : WorldState S K E C F P) (same : q0 ≡ q) where
+  pub whole_after : (words : Option Command) (end : run_end)
+      → ForPipe words (AreWhole p.told.contents p.told.left) → ¬ (HasFault p.told q0.told)
+      → WorkSays words p q end → (number_of end ≡ 0) ⊎ (number_of end ≡ 8)
+  whole_after words end whole no_fault says =
+      whole_run p q0 words end whole no_fault (subst (λ (w : WorldState S K E C F P). WorkSays words p w end) (sym same) says)
