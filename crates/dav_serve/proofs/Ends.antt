@@ -166,31 +166,31 @@ module _ (opening : State) (pass : ℕ) (users : List User) (start : Point) (fro
 
     -- ---- all together
 
-    ended : (over : Bool) (end : ServeEnd) → StepSays opening pass users front later p q over (Some end) → Serves opening pass users start q over end
-    ended over Ended (inl step) = absurd step.answers.sent
-    ended over Ended (inr (inl step)) = (left (Leaves true) step.receives.1 step.waits step.receives.2 step.history step.readings step.taken, step.receives.0, nothing_left start.left p.left q.left far.bytes far.talks.consumed step.receives.2 step.receives.3)
-    ended over Ended (inr (inr (inl step))) = absurd step.sent
-    ended over Ended (inr (inr (inr wants))) = let never : Some Ended ≡ Some NoMemory = wants.0 in absurd (cc)
-    ended over Closed (inl step) = last_answered step
-    ended over Closed (inr (inl step)) = absurd step.receives
-    ended over Closed (inr (inr (inl step))) = refusal_told step
-    ended over Closed (inr (inr (inr wants))) = let never : Some Closed ≡ Some NoMemory = wants.0 in absurd (cc)
-    ended over BrokeOff (inl step) = absurd step.answers.sent
-    ended over BrokeOff (inr (inl step)) = (left (Leaves false) step.receives.1 step.waits step.receives.2 step.history step.readings step.taken, step.receives.0, nothing_left start.left p.left q.left far.bytes far.talks.consumed step.receives.2 step.receives.3)
-    ended over BrokeOff (inr (inr (inl step))) = absurd step.sent
-    ended over BrokeOff (inr (inr (inr wants))) = let never : Some BrokeOff ≡ Some NoMemory = wants.0 in absurd (cc)
-    ended over ReadFault (inl step) = absurd step.answers.sent
-    ended over ReadFault (inr (inl step)) = left IsLeft tt step.waits step.receives step.history step.readings step.taken
-    ended over ReadFault (inr (inr (inl step))) = absurd step.sent
-    ended over ReadFault (inr (inr (inr wants))) = let never : Some ReadFault ≡ Some NoMemory = wants.0 in absurd (cc)
-    ended over WriteFault (inl step) = inl (reply_cut step)
-    ended over WriteFault (inr (inl step)) = absurd step.receives
-    ended over WriteFault (inr (inr (inl step))) = inr (closing_cut step)
-    ended over WriteFault (inr (inr (inr wants))) = let never : Some WriteFault ≡ Some NoMemory = wants.0 in absurd (cc)
-    ended over NoMemory (inl step) = reply_missing step
-    ended over NoMemory (inr (inl step)) = nothing_more step.receives.0 step.receives.1 step.history step.readings (Keeps-same p.taken q.taken step.taken)
-    ended over NoMemory (inr (inr (inl step))) = nothing_more [] (keeps_all step.left) step.history step.readings step.sent
-    ended over NoMemory (inr (inr (inr wants))) = memory_wanting wants
+    ended : (end : ServeEnd) → StepSays opening pass users front later p q (Some end) → Serves opening pass users start q end
+    ended Ended (inl step) = absurd step.answers.sent
+    ended Ended (inr (inl step)) = (left (Leaves true) step.receives.1 step.waits step.receives.2 step.history step.readings step.taken, step.receives.0, nothing_left start.left p.left q.left far.bytes far.talks.consumed step.receives.2 step.receives.3)
+    ended Ended (inr (inr (inl step))) = absurd step.sent
+    ended Ended (inr (inr (inr wants))) = let never : Some Ended ≡ Some NoMemory = wants.0 in absurd (cc)
+    ended Closed (inl step) = last_answered step
+    ended Closed (inr (inl step)) = absurd step.receives
+    ended Closed (inr (inr (inl step))) = refusal_told step
+    ended Closed (inr (inr (inr wants))) = let never : Some Closed ≡ Some NoMemory = wants.0 in absurd (cc)
+    ended BrokeOff (inl step) = absurd step.answers.sent
+    ended BrokeOff (inr (inl step)) = (left (Leaves false) step.receives.1 step.waits step.receives.2 step.history step.readings step.taken, step.receives.0, nothing_left start.left p.left q.left far.bytes far.talks.consumed step.receives.2 step.receives.3)
+    ended BrokeOff (inr (inr (inl step))) = absurd step.sent
+    ended BrokeOff (inr (inr (inr wants))) = let never : Some BrokeOff ≡ Some NoMemory = wants.0 in absurd (cc)
+    ended ReadFault (inl step) = absurd step.answers.sent
+    ended ReadFault (inr (inl step)) = left IsLeft tt step.waits step.receives step.history step.readings step.taken
+    ended ReadFault (inr (inr (inl step))) = absurd step.sent
+    ended ReadFault (inr (inr (inr wants))) = let never : Some ReadFault ≡ Some NoMemory = wants.0 in absurd (cc)
+    ended WriteFault (inl step) = inl (reply_cut step)
+    ended WriteFault (inr (inl step)) = absurd step.receives
+    ended WriteFault (inr (inr (inl step))) = inr (closing_cut step)
+    ended WriteFault (inr (inr (inr wants))) = let never : Some WriteFault ≡ Some NoMemory = wants.0 in absurd (cc)
+    ended NoMemory (inl step) = reply_missing step
+    ended NoMemory (inr (inl step)) = nothing_more step.receives.0 step.receives.1 step.history step.readings (Keeps-same p.taken q.taken step.taken)
+    ended NoMemory (inr (inr (inl step))) = nothing_more [] (keeps_all step.left) step.history step.readings step.sent
+    ended NoMemory (inr (inr (inr wants))) = memory_wanting wants
 
 -- ---- at the loop
 
@@ -199,21 +199,21 @@ pub never_begun : (opening : State) (pass : ℕ) (users : List User) (start : Po
 never_begun opening pass users start =
     memory_wanting opening pass users start new_front start (begun opening pass users start new_front refl) new_front start (refl, refl)
 
-module _ (opening now_opening : State) (pass now_pass : ℕ) (users : List User) (start : Point) (front later : FrontState) (p q : Point) (over : Bool) where
+module _ (opening now_opening : State) (pass now_pass : ℕ) (users : List User) (start : Point) (front later : FrontState) (p q : Point) where
   -- the turn's opening state and pass are still those of the start
   abbrev Step : Option ServeEnd → Type 0
-  Step result = StepSays now_opening now_pass users front later p q over result
+  Step result = StepSays now_opening now_pass users front later p q result
 
-  same_step : (result : Option ServeEnd) → now_opening ≡ opening → now_pass ≡ pass → Step result → StepSays opening pass users front later p q over result
+  same_step : (result : Option ServeEnd) → now_opening ≡ opening → now_pass ≡ pass → Step result → StepSays opening pass users front later p q result
   same_step result first second step =
-      subst (λ (o : State). StepSays o pass users front later p q over result) first
-      (subst (λ (k : ℕ). StepSays now_opening k users front later p q over result) second step)
+      subst (λ (o : State). StepSays o pass users front later p q result) first
+      (subst (λ (k : ℕ). StepSays now_opening k users front later p q result) second step)
 
-  pub ends_now : (end : ServeEnd) → now_opening ≡ opening → now_pass ≡ pass → SoFar opening pass users start front p → Step (Some end) → Serves opening pass users start q over end
-  ends_now end first second far step = ended opening pass users start front p far later q over end (same_step (Some end) first second step)
+  pub ends_now : (end : ServeEnd) → now_opening ≡ opening → now_pass ≡ pass → SoFar opening pass users start front p → Step (Some end) → Serves opening pass users start q end
+  ends_now end first second far step = ended opening pass users start front p far later q end (same_step (Some end) first second step)
 
   pub goes_on_now : now_opening ≡ opening → now_pass ≡ pass → SoFar opening pass users start front p → Step None → SoFar opening pass users start later q
-  goes_on_now first second far step = goes_on opening pass users start front later p q over far (same_step None first second step)
+  goes_on_now first second far step = goes_on opening pass users start front later p q far (same_step None first second step)
 
   pub smaller_now : now_opening ≡ opening → now_pass ≡ pass → SoFar opening pass users start front p → Step None → measure later < measure front
-  smaller_now first second far step = smaller opening pass users start front later p q over far (same_step None first second step)
+  smaller_now first second far step = smaller opening pass users start front later p q far (same_step None first second step)

@@ -14,7 +14,7 @@ use Rattle.http_front.specs.Answers.{phase_after}
 use Rattle.http_front.specs.Fronts.{FrontState, new_front, fed_in, fed, given}
 use Rattle.http_front.specs.Limits.{most_requests, most_message_bytes}
 use Rattle.dav_machine.specs.declared.answer.Answer.{Answer}
-use Rattle.dav_machine.specs.Histories.{Entry}
+use Rattle.dav_machine.specs.Histories.{HistoryEntry}
 use Rattle.dav_machine.specs.States.{State}
 use Rattle.dav_machine.specs.Talks.{Talk, call_of, output_of}
 use Rattle.dav_machine.specs.Turns.{Turned}
@@ -80,7 +80,7 @@ module _ (opening : State) (pass : ℕ) (start p q : Point) where
     consumed = Consumes-trans start.left p.left q.left bytes piece talks.consumed more;
     moments = talks.moments;
     read = subst (λ (r : Option (List ℕ)). Reads start.readings r talks.moments) (sym readings) talks.read;
-    talk = subst (λ (h : List Entry). Talk opening start.history pass requests talks.moments outputs h) (sym history) talks.talk;
+    talk = subst (λ (h : List HistoryEntry). Talk opening start.history pass requests talks.moments outputs h) (sym history) talks.talk;
   }
 
   pub Talks-kept : (bytes : List ℕ) (requests : List Request) (outputs : List (List ℕ))
@@ -92,7 +92,7 @@ module _ (opening : State) (pass : ℕ) (start p q : Point) where
     consumed = Consumes-kept start.left p.left q.left bytes talks.consumed kept;
     moments = talks.moments;
     read = subst (λ (r : Option (List ℕ)). Reads start.readings r talks.moments) (sym readings) talks.read;
-    talk = subst (λ (h : List Entry). Talk opening start.history pass requests talks.moments outputs h) (sym history) talks.talk;
+    talk = subst (λ (h : List HistoryEntry). Talk opening start.history pass requests talks.moments outputs h) (sym history) talks.talk;
   }
 
 -- ---- the connection so far
@@ -155,8 +155,8 @@ module _ (opening : State) (pass : ℕ) (users : List User) (start : Point) wher
               (Appends-trans start.taken p.taken q.taken (concat far.outputs) output far.put step.answers.sent.1);
         }
 
-    received : (over : Bool) → SoFar opening pass users start front p → Received users front later p q over None → SoFar opening pass users start later q
-    received over far step =
+    received : SoFar opening pass users start front p → Received users front later p q None → SoFar opening pass users start later q
+    received far step =
         let piece = step.receives.0 in
         let is : later ≡ record front { rest = front.rest ++ piece } = step.receives.4 ∙ fed_open front piece far.is_open in
         record {
@@ -171,15 +171,15 @@ module _ (opening : State) (pass : ℕ) (users : List User) (start : Point) wher
         }
 
     -- a step that doesn't end the connection
-    pub goes_on : (over : Bool) → SoFar opening pass users start front p → StepSays opening pass users front later p q over None → SoFar opening pass users start later q
-    goes_on over far (inl step) = replied far step
-    goes_on over far (inr (inl step)) = received over far step
-    goes_on over far (inr (inr (inl step))) = let never : true ≡ false = step.sent.0 in absurd (cc)
-    goes_on over far (inr (inr (inr wants))) = let never : None ≡ Some NoMemory = wants.0 in absurd (cc)
+    pub goes_on : SoFar opening pass users start front p → StepSays opening pass users front later p q None → SoFar opening pass users start later q
+    goes_on far (inl step) = replied far step
+    goes_on far (inr (inl step)) = received far step
+    goes_on far (inr (inr (inl step))) = let never : true ≡ false = step.sent.0 in absurd (cc)
+    goes_on far (inr (inr (inr wants))) = let never : None ≡ Some NoMemory = wants.0 in absurd (cc)
 
     -- it brings the connection nearer to its end
-    pub smaller : (over : Bool) → SoFar opening pass users start front p → StepSays opening pass users front later p q over None → measure later < measure front
-    smaller over far (inl step) =
+    pub smaller : SoFar opening pass users start front p → StepSays opening pass users front later p q None → measure later < measure front
+    smaller far (inl step) =
         let size = whole_size users front.number front.rest step.request step.gives.size step.gives.first in
         let some : 0 < step.gives.size = size.0 in
         let within : step.gives.size ≤ length front.rest = size.1 in
@@ -187,7 +187,7 @@ module _ (opening : State) (pass : ℕ) (users : List User) (start : Point) wher
         let at : later.at ≡ front.at + step.gives.size = ap (λ (f : FrontState). f.at) is in
         let left : length later.rest ≡ length front.rest - step.gives.size = ap (λ (f : FrontState). length f.rest) is ∙ length-drop step.gives.size front.rest in
         omega arith
-    smaller over far (inr (inl step)) =
+    smaller far (inr (inl step)) =
         let piece = step.receives.0 in
         let is : later ≡ record front { rest = front.rest ++ piece } = step.receives.4 ∙ fed_open front piece far.is_open in
         let at : later.at ≡ front.at = ap (λ (f : FrontState). f.at) is in
@@ -197,5 +197,5 @@ module _ (opening : State) (pass : ℕ) (users : List User) (start : Point) wher
         let requests : front.number < most_requests = step.waits.bounded.requests in
         let bytes : front.at + length front.rest ≤ (front.number + 1) * most_message_bytes = step.waits.bounded.bytes in
         omega arith
-    smaller over far (inr (inr (inl step))) = let never : true ≡ false = step.sent.0 in absurd (cc)
-    smaller over far (inr (inr (inr wants))) = let never : None ≡ Some NoMemory = wants.0 in absurd (cc)
+    smaller far (inr (inr (inl step))) = let never : true ≡ false = step.sent.0 in absurd (cc)
+    smaller far (inr (inr (inr wants))) = let never : None ≡ Some NoMemory = wants.0 in absurd (cc)

@@ -7,4 +7,6 @@ use Rattle.dav_serve.specs.Serves.{BeginsWith}
 
 -- requests that the bytes of a connection begin with are the first of all its requests
 abbrev pub BeginningsAreFirst : Type 0
-BeginningsAreFirst = (users : List User) (bytes : List ℕ) (some all : List Request) (end : End) → BeginsWith users 0 bytes some → Messages users bytes all end → (more : List Request) × (all ≡ some ++ more)
+BeginningsAreFirst =
+    (users : List User) (bytes : List ℕ) (some all : List Request) (end : End)
+    → BeginsWith users 0 bytes some → Messages users bytes all end → (more : List Request) × (all ≡ some ++ more)

@@ -45,9 +45,11 @@ BeginsWith users number bytes (request ∷ requests) =
     (n : ℕ) × IsFirst users number bytes (Whole request n)
     × MatchBool request.last (requests ≡ []) (BeginsWith users (number + 1) (drop n bytes) requests)
 
--- these bytes were taken from the source, and these requests were answered with these outputs, one after another, each at
--- the moment of one reading of the clock
-pub record Talks (opening : State) (pass : ℕ) (p q : Point) (bytes : List ℕ) (requests : List Request) (outputs : List (List ℕ)) : Type 0 where
+-- these bytes were taken from the source, and these requests were answered with these outputs, one after another,
+-- each at the moment of one reading of the clock
+pub record Talks
+    (opening : State) (pass : ℕ) (p q : Point) (bytes : List ℕ) (requests : List Request) (outputs : List (List ℕ))
+    : Type 0 where
   pub consumed : Consumes p.left q.left bytes
   pub moments : List ℕ
   pub read : Reads p.readings q.readings moments
@@ -87,7 +89,8 @@ pub record CutReply (opening : State) (pass : ℕ) (users : List User) (p q : Po
   pub within : length_put ≤ length output
   pub put : Appends p.taken q.taken (concat outputs ++ take length_put output)
 
--- all requests of the bytes were answered and their replies put, and then some first bytes of the closing refusal, or none
+-- all requests of the bytes were answered and their replies put, and then some first bytes of the closing refusal, or
+-- none
 pub record CutClosing (opening : State) (pass : ℕ) (users : List User) (p q : Point) : Type 0 where
   pub bytes : List ℕ
   pub requests : List Request
@@ -105,15 +108,18 @@ abbrev pub NothingLeft : Option (List ℕ) → Option (List ℕ) → Type 0
 NothingLeft None new = ⊤
 NothingLeft (Some old) new = IsAtEnd new
 
--- what the serving of a connection did between two points, where it ended so, and the source was over or not
-abbrev pub Serves : State → ℕ → List User → Point → Point → Bool → ServeEnd → Type 0
-Serves opening pass users p q over Ended = AnsweredAll opening pass users p q (Leaves true) × (over ≡ true) × NothingLeft p.left q.left
-Serves opening pass users p q over Closed = AnsweredAll opening pass users p q IsClosing
-Serves opening pass users p q over BrokeOff = AnsweredAll opening pass users p q (Leaves false) × (over ≡ true) × NothingLeft p.left q.left
-Serves opening pass users p q over ReadFault = AnsweredAll opening pass users p q IsLeft
-Serves opening pass users p q over WriteFault = CutReply opening pass users p q ⊎ CutClosing opening pass users p q
-Serves opening pass users p q over NoMemory = AnsweredSome opening pass users p q
+-- what the serving of a connection did between two points, where it ended so
+abbrev pub Serves : State → ℕ → List User → Point → Point → ServeEnd → Type 0
+Serves opening pass users p q Ended =
+    AnsweredAll opening pass users p q (Leaves true) × (q.over ≡ true) × NothingLeft p.left q.left
+Serves opening pass users p q Closed = AnsweredAll opening pass users p q IsClosing
+Serves opening pass users p q BrokeOff =
+    AnsweredAll opening pass users p q (Leaves false) × (q.over ≡ true) × NothingLeft p.left q.left
+Serves opening pass users p q ReadFault = AnsweredAll opening pass users p q IsLeft
+Serves opening pass users p q WriteFault = CutReply opening pass users p q ⊎ CutClosing opening pass users p q
+Serves opening pass users p q NoMemory = AnsweredSome opening pass users p q
 
+-- the ends by a fault of the source
 abbrev pub is_read_fault : ServeEnd → Bool
 is_read_fault Ended = false
 is_read_fault Closed = false
@@ -122,6 +128,7 @@ is_read_fault ReadFault = true
 is_read_fault WriteFault = false
 is_read_fault NoMemory = false
 
+-- .. and of the sink
 abbrev pub is_write_fault : ServeEnd → Bool
 is_write_fault Ended = false
 is_write_fault Closed = false

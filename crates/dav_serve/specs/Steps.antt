@@ -11,23 +11,23 @@ use Rattle.http_front.specs.Answers.{GivesRequest, Waits, Refuses}
 use Rattle.http_front.specs.Fronts.{FrontState, fed}
 use Rattle.http_front.specs.Sections.{is_idle}
 use Rattle.dav_machine.specs.declared.answer.Answer.{Answer}
-use Rattle.dav_machine.specs.Histories.{Entry}
 use Rattle.dav_machine.specs.States.{State}
 use Rattle.dav_machine.specs.Talks.{call_of, output_of}
 use Rattle.dav_machine.specs.Turns.{Turned}
 use Rattle.dav_serve.specs.Closings.{closing_text}
-use Rattle.dav_serve.specs.Points.{Point}
+use Rattle.dav_serve.specs.Points.{Point, Answering, answering}
 use Rattle.dav_serve.specs.Serves.{is_read_fault, is_write_fault}
 
 -- the most bytes that are read at once
 abbrev pub most_piece_bytes : ℕ
 most_piece_bytes = 65536
 
--- whether a step ends the connection by a fault of the source, or of the sink
+-- whether a step ends the connection by a fault of the source
 abbrev pub has_read_fault : Option ServeEnd → Bool
 has_read_fault None = false
 has_read_fault (Some end) = is_read_fault end
 
+-- .. or by one of the sink
 abbrev pub has_write_fault : Option ServeEnd → Bool
 has_write_fault None = false
 has_write_fault (Some end) = is_write_fault end
@@ -45,19 +45,23 @@ SendSays last output old new (Some WriteFault) = (n : ℕ) × (n ≤ length outp
 SendSays last output old new (Some NoMemory) = Keeps old new
 
 -- one request was asked at a moment, and its reply was put
-pub record AnswerSays (opening : State) (pass : ℕ) (request : Request) (front later : List Entry) (before now old new : Option (List ℕ)) (result : Option ServeEnd) : Type 0 where
+pub record AnswerSays (opening : State) (pass : ℕ) (request : Request) (p q : Answering) (result : Option ServeEnd) : Type 0 where
   pub moment : ℕ
   pub answer : Answer
-  pub turned : Turned opening front pass (call_of pass request moment) answer later
-  pub read : Reads before now (moment ∷ [])
-  pub sent : SendSays request.last (output_of request answer.bytes) old new result
+  pub turned : Turned opening p.history pass (call_of pass request moment) answer q.history
+  pub read : Reads p.readings q.readings (moment ∷ [])
+  pub sent : SendSays request.last (output_of request answer.bytes) p.taken q.taken result
 
 -- a piece was read and fed, or what it came to else
 abbrev pub ReceiveSays : FrontState → FrontState → Option (List ℕ) → Option (List ℕ) → Bool → Option ServeEnd → Type 0
-ReceiveSays front later old new over None = (piece : List ℕ) × (1 ≤ length piece) × (length piece ≤ most_piece_bytes) × Consumes old new piece × (later ≡ fed front piece)
-ReceiveSays front later old new over (Some Ended) = (over ≡ true) × (is_idle front.rest ≡ true) × Keeps old new × IsAtEnd old
+ReceiveSays front later old new over None =
+    (piece : List ℕ) × (1 ≤ length piece) × (length piece ≤ most_piece_bytes) × Consumes old new piece
+    × (later ≡ fed front piece)
+ReceiveSays front later old new over (Some Ended) =
+    (over ≡ true) × (is_idle front.rest ≡ true) × Keeps old new × IsAtEnd old
 ReceiveSays front later old new over (Some Closed) = ⊥
-ReceiveSays front later old new over (Some BrokeOff) = (over ≡ true) × (is_idle front.rest ≡ false) × Keeps old new × IsAtEnd old
+ReceiveSays front later old new over (Some BrokeOff) =
+    (over ≡ true) × (is_idle front.rest ≡ false) × Keeps old new × IsAtEnd old
 ReceiveSays front later old new over (Some ReadFault) = Keeps old new
 ReceiveSays front later old new over (Some WriteFault) = ⊥
 ReceiveSays front later old new over (Some NoMemory) = (piece : List ℕ) × Consumes old new piece
@@ -68,13 +72,13 @@ ReceiveSays front later old new over (Some NoMemory) = (piece : List ℕ) × Con
 pub record Replied (opening : State) (pass : ℕ) (users : List User) (front later : FrontState) (p q : Point) (result : Option ServeEnd) : Type 0 where
   pub request : Request
   pub gives : GivesRequest users front later request
-  pub answers : AnswerSays opening pass request p.history q.history p.readings q.readings p.taken q.taken result
+  pub answers : AnswerSays opening pass request (answering p) (answering q) result
   pub left : q.left ≡ p.left
 
 -- the front waited for bytes, which were read
-pub record Received (users : List User) (front later : FrontState) (p q : Point) (over : Bool) (result : Option ServeEnd) : Type 0 where
+pub record Received (users : List User) (front later : FrontState) (p q : Point) (result : Option ServeEnd) : Type 0 where
   pub waits : Waits users front
-  pub receives : ReceiveSays front later p.left q.left over result
+  pub receives : ReceiveSays front later p.left q.left q.over result
   pub history : q.history ≡ p.history
   pub readings : q.readings ≡ p.readings
   pub taken : q.taken ≡ p.taken
@@ -93,7 +97,7 @@ abbrev pub Wants : Point → Point → Option ServeEnd → Type 0
 Wants p q result = (result ≡ Some NoMemory) × (q ≡ p)
 
 -- what a step does
-abbrev pub StepSays : State → ℕ → List User → FrontState → FrontState → Point → Point → Bool → Option ServeEnd → Type 0
-StepSays opening pass users front later p q over result =
+abbrev pub StepSays : State → ℕ → List User → FrontState → FrontState → Point → Point → Option ServeEnd → Type 0
+StepSays opening pass users front later p q result =
     Replied opening pass users front later p q result
-    ⊎ (Received users front later p q over result ⊎ (Refused users front p q result ⊎ Wants p q result))
+    ⊎ (Received users front later p q result ⊎ (Refused users front p q result ⊎ Wants p q result))

@@ -2,8 +2,6 @@
 //! sink.
 #![tactic(auto)]
 
-#[cfg(test)]
-mod cut;
 mod laws;
 mod serving;
 mod steps;

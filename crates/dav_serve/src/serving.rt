@@ -26,11 +26,24 @@ pub fn serve_connection<T: Turn, S: Source, K: Sink, C: Clock>(
     users: &Users,
 ) -> ServeEnd
     ensures says { Serves (T.opening turn.old) (T.pass turn.old) users.now
-        (record { history = T.front turn.old; left = S.left source.old; taken = K.taken sink.old; readings = C.readings clock.old })
-        (record { history = T.front turn.new; left = S.left source.new; taken = K.taken sink.new; readings = C.readings clock.new })
-        (S.over source.new) result }
+        (record {
+          history = T.front turn.old;
+          left = S.left source.old;
+          over = S.over source.old;
+          taken = K.taken sink.old;
+          readings = C.readings clock.old;
+        })
+        (record {
+          history = T.front turn.new;
+          left = S.left source.new;
+          over = S.over source.new;
+          taken = K.taken sink.new;
+          readings = C.readings clock.new;
+        })
+        result }
     ensures opening { T.opening turn.new ≡ T.opening turn.old }
     ensures pass { T.pass turn.new ≡ T.pass turn.old }
+    ensures origin { T.origin turn.new ≡ T.origin turn.old }
     ensures read { HasCause (S.faults source.old) (S.faults source.new) (is_read_fault result) }
     ensures written { HasCause (K.faults sink.old) (K.faults sink.new) (is_write_fault result) }
 {

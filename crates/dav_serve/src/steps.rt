@@ -1,6 +1,7 @@
 ghost use Rattle.std.specs.Prelude.{◌≡◌, ◌<◌, ◌≤◌, length, true, false};
 ghost use Rattle.dsv_outside.specs.Causes.{HasCause};
 ghost use Rattle.http_front.specs.declared.phase.Phase.TheVariants.{Open};
+ghost use Rattle.http_front.specs.Logins.{IsNamed};
 ghost use Rattle.dav_replies.specs.Refusals.{refusal_bytes};
 ghost use Rattle.dav_machine.specs.Talks.{output_of};
 ghost use Rattle.dav_serve.specs.Steps.{most_piece_bytes, has_read_fault, has_write_fault, SendSays, AnswerSays, ReceiveSays, StepSays};
@@ -27,11 +28,24 @@ pub(crate) fn step<T: Turn, S: Source, K: Sink, C: Clock>(
     requires room { 0 < length piece.old }
     requires few { length piece.old ≤ most_piece_bytes }
     ensures says { StepSays (T.opening turn.old) (T.pass turn.old) users.now front.old front.new
-        (record { history = T.front turn.old; left = S.left source.old; taken = K.taken sink.old; readings = C.readings clock.old })
-        (record { history = T.front turn.new; left = S.left source.new; taken = K.taken sink.new; readings = C.readings clock.new })
-        (S.over source.new) result }
+        (record {
+          history = T.front turn.old;
+          left = S.left source.old;
+          over = S.over source.old;
+          taken = K.taken sink.old;
+          readings = C.readings clock.old;
+        })
+        (record {
+          history = T.front turn.new;
+          left = S.left source.new;
+          over = S.over source.new;
+          taken = K.taken sink.new;
+          readings = C.readings clock.new;
+        })
+        result }
     ensures opening { T.opening turn.new ≡ T.opening turn.old }
     ensures pass { T.pass turn.new ≡ T.pass turn.old }
+    ensures origin { T.origin turn.new ≡ T.origin turn.old }
     ensures piece { length piece.new ≡ length piece.old }
     ensures read { HasCause (S.faults source.old) (S.faults source.new) (has_read_fault result) }
     ensures written { HasCause (K.faults sink.old) (K.faults sink.new) (has_write_fault result) }
@@ -53,9 +67,14 @@ fn answer<T: Turn, K: Sink, C: Clock>(
     clock: &mut C,
     request: Request,
 ) -> Option<ServeEnd>
-    ensures says { AnswerSays (T.opening turn.old) (T.pass turn.old) request (T.front turn.old) (T.front turn.new) (C.readings clock.old) (C.readings clock.new) (K.taken sink.old) (K.taken sink.new) result }
+    requires named { IsNamed request.login }
+    ensures says { AnswerSays (T.opening turn.old) (T.pass turn.old) request
+        (record { history = T.front turn.old; taken = K.taken sink.old; readings = C.readings clock.old })
+        (record { history = T.front turn.new; taken = K.taken sink.new; readings = C.readings clock.new })
+        result }
     ensures opening { T.opening turn.new ≡ T.opening turn.old }
     ensures pass { T.pass turn.new ≡ T.pass turn.old }
+    ensures origin { T.origin turn.new ≡ T.origin turn.old }
     ensures cause { HasCause (K.faults sink.old) (K.faults sink.new) (has_write_fault result) }
 {
     let call = Call {
@@ -83,7 +102,8 @@ fn output_of<'a>(request: &Request, outgoing: &'a Outgoing) -> &'a [u8]
 
 /// Tells a refusal that closes the connection.
 fn refuse<K: Sink>(alloc: Global, sink: &mut K, refusal: &Refusal) -> Option<ServeEnd>
-    ensures says { SendSays true (refusal_bytes refusal.now false true) (K.taken sink.old) (K.taken sink.new) result }
+    ensures says { SendSays true (refusal_bytes refusal.now false true)
+        (K.taken sink.old) (K.taken sink.new) result }
     ensures cause { HasCause (K.faults sink.old) (K.faults sink.new) (has_write_fault result) }
 {
     match refusal_bytes(alloc, refusal, false, true) {
@@ -109,7 +129,8 @@ fn send<K: Sink>(sink: &mut K, reply: &[u8], last: bool) -> Option<ServeEnd>
 fn receive<S: Source>(source: &mut S, front: &mut Front, piece: &mut [u8]) -> Option<ServeEnd>
     requires room { 0 < length piece.old }
     requires few { length piece.old ≤ most_piece_bytes }
-    ensures says { ReceiveSays front.old front.new (S.left source.old) (S.left source.new) (S.over source.new) result }
+    ensures says { ReceiveSays front.old front.new
+        (S.left source.old) (S.left source.new) (S.over source.new) result }
     ensures piece { length piece.new ≡ length piece.old }
     ensures cause { HasCause (S.faults source.old) (S.faults source.new) (has_read_fault result) }
 {

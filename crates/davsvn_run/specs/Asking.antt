@@ -17,7 +17,8 @@ right_everywhere rules name user path =
 
 -- the user's right at the path, or with `recursive` the one that is held at every path under it, too
 abbrev pub right_in : List Rule → List ℕ → Option (List ℕ) → List ℕ → Bool → Right
-right_in rules name user path recursive = if recursive then right_everywhere rules name user path else access rules name user path
+right_in rules name user path recursive =
+    if recursive then right_everywhere rules name user path else access rules name user path
 
 -- the right that is asked for
 abbrev pub right_asked : List Rule → Question → List ℕ → Right

@@ -3,6 +3,7 @@ use Rattle.std.specs.Prelude.{ℕ, Bool, true, false, not, ◌||◌, List, [], �
 use Rattle.std.specs.Option.{option_map}
 use Rattle.std.specs.Str.{bytes_eq}
 use Rattle.dsv_base.specs.Names.{is_user_name, is_repository_name}
+use Rattle.dsv_base.specs.Options.{◌>>=◌}
 use Rattle.dsv_base.specs.Paths.{is_path}
 use Rattle.authz_file.specs.declared.right.Right.{Right}
 use Rattle.authz_file.specs.declared.right.Right.TheVariants.{No, Read, Write}
@@ -24,14 +25,10 @@ pub record Question : Type 0 where
   pub expected : Option Right
   pub recursive : Bool
 
+-- what the words of the command line ask for
 pub data Command : Type 0 where
   Pipe : FileNames → Command
   AccessOf : Question → List ℕ → Command
-
-infixl 10 ◌>>=◌
-abbrev ◌>>=◌ : {A B : Type 0} → Option A → (A → Option B) → Option B
-None >>= f = None
-(Some x) >>= f = f x
 
 -- a text of which a test holds
 abbrev pub that : (List ℕ → Bool) → List ℕ → Option (List ℕ)
@@ -74,7 +71,13 @@ question_of given = do
   repos ← needed (that is_repository_name) (value_of (codes "--repos") given)
   user ← optional (that is_user_name) (value_of (codes "--user") given)
   expected ← optional right_named (value_of (codes "--is") given)
-  Some (record { rules = rules; repos = repos; user = user; expected = expected; recursive = is_some (value_of (codes "--recursive") given) })
+  Some (record {
+    rules = rules;
+    repos = repos;
+    user = user;
+    expected = expected;
+    recursive = is_some (value_of (codes "--recursive") given);
+  })
 
 -- no option is given twice, and no other word stands after the options of `pipe`
 abbrev pub pipe_command : Given × List (List ℕ) → Option Command
@@ -84,7 +87,9 @@ pipe_command (given, word ∷ words) = None
 -- .. and one word, the path, after those of `accessof`
 abbrev pub accessof_command : Given × List (List ℕ) → Option Command
 accessof_command (given, []) = None
-accessof_command (given, path ∷ []) = if has_double given || not (is_path path) then None else option_map (λ question. AccessOf question path) (question_of given)
+accessof_command (given, path ∷ []) =
+    if has_double given || not (is_path path) then None else
+    option_map (λ question. AccessOf question path) (question_of given)
 accessof_command (given, path ∷ word ∷ words) = None
 
 -- what the words ask for, where they are those of a command

@@ -2,6 +2,7 @@ pub mod Options
 pub mod Commands
 pub mod Words
 pub mod Asking
+pub mod Worlds
 pub mod Opening
 pub mod Runs
 pub mod Serving

@@ -7,8 +7,11 @@ use Rattle.davsvn_run.specs.declared.verb.Verb.TheVariants.{Pipe, AccessOf}
 
 -- an option with a value
 abbrev pub takes_value : Verb → List ℕ → Bool
-takes_value Pipe name = bytes_eq name (codes "--script") || bytes_eq name (codes "--rules") || bytes_eq name (codes "--users")
-takes_value AccessOf name = bytes_eq name (codes "--rules") || bytes_eq name (codes "--repos") || bytes_eq name (codes "--user") || bytes_eq name (codes "--is")
+takes_value Pipe name =
+    bytes_eq name (codes "--script") || bytes_eq name (codes "--rules") || bytes_eq name (codes "--users")
+takes_value AccessOf name =
+    bytes_eq name (codes "--rules") || bytes_eq name (codes "--repos")
+    || bytes_eq name (codes "--user") || bytes_eq name (codes "--is")
 
 -- an option without one
 abbrev pub stands_alone : Verb → List ℕ → Bool
@@ -19,6 +22,7 @@ stands_alone AccessOf name = bytes_eq name (codes "--recursive")
 abbrev pub Given : Type 0
 Given = List (List ℕ × List ℕ)
 
+-- one option more, at the front of what was read
 abbrev pub with_option : List ℕ → List ℕ → Given × List (List ℕ) → Given × List (List ℕ)
 with_option name value read = ((name, value) ∷ read.0, read.1)
 

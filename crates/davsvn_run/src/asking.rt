@@ -1,45 +1,51 @@
-ghost use Rattle.std.specs.Prelude.{◌≡◌, ⊤, true, false};
+ghost use Rattle.std.specs.Prelude.{◌≡◌};
 ghost use Rattle.std.specs.Option.{option_copied};
 ghost use Rattle.dsv_outside.specs.Causes.{Rose};
 ghost use Rattle.davsvn_run.specs.Asking.{right_everywhere, right_in, right_line, is_expected, judged};
 ghost use Rattle.davsvn_run.specs.Runs.{AskSays, TellSays};
 ghost use Rattle.davsvn_run.specs.Words.{question_in};
+ghost use Rattle.davsvn_run.specs.Worlds.{IsUnread, IsUnreported, KeepsNothing};
 
 use crate::command::Question;
 use crate::end::End;
 use crate::opening::{end_of, open_rules};
+use crate::world::World;
 use authz_check::Policy;
 use authz_file::Right;
 use dsv_base::{NoMemory, Path};
-use dsv_outside::{Files, Put, Sink};
+use dsv_outside::{Clock, Files, Keeper, Put, Sink, Source};
 use std::alloc::Global;
 
 /// Reads the rules file and prints the right that is asked for.
-pub fn access_of<K: Sink, F: Files>(
+pub fn access_of<S: Source, K: Sink, E: Sink, C: Clock, F: Files, P: Keeper>(
     alloc: Global,
     question: Question<'_>,
     path: &Path,
-    sink: &mut K,
-    files: &mut F,
-) -> End
-    ensures says { AskSays (F.contents files.old) (question_in question.entry) path.now (K.taken sink.old) (K.taken sink.new) (Rose (K.faults sink.old) (K.faults sink.new)) (Rose (F.faults files.old) (F.faults files.new)) result }
-    ensures same { F.contents files.new ≡ F.contents files.old }
+    mut world: World<S, K, E, C, F, P>,
+) -> (End, World<S, K, E, C, F, P>)
+    ensures says { AskSays (question_in question.entry) path.now world result.1 result.0 }
+    ensures unread { IsUnread world result.1 }
+    ensures contents { result.1.told.contents ≡ world.told.contents }
+    ensures kept { KeepsNothing world.told result.1.told }
+    ensures unreported { IsUnreported world result.1 }
 {
-    let rules = match open_rules(alloc, files, question.rules) {
+    let rules = match open_rules(alloc, &mut world.files, question.rules) {
         Ok(rules) => rules,
-        Err(why) => return end_of(alloc, question.rules, why),
+        Err(why) => return (end_of(alloc, question.rules, why), world),
     };
     let policy = match Policy::new(alloc, &rules, question.repos) {
         Ok(policy) => policy,
-        Err(NoMemory) => return End::NoMemory,
+        Err(NoMemory) => return (End::NoMemory, world),
     };
     let right = right_in(&policy, question.user, path, question.recursive);
-    tell(right, question.expected, sink)
+    let end = tell(right, question.expected, &mut world.sink);
+    (end, world)
 }
 
 /// The user's right at the path, or the one that is held at every path under it, too.
 fn right_in(policy: &Policy, user: Option<&[u8]>, path: &Path, recursive: bool) -> Right
-    ensures { result ≡ right_in policy.now.rules policy.now.name (option_copied user.entry) path.now recursive }
+    ensures { result ≡
+        right_in policy.now.rules policy.now.name (option_copied user.entry) path.now recursive }
 {
     if recursive {
         right_everywhere(policy, user, path)
@@ -62,7 +68,8 @@ fn right_everywhere(policy: &Policy, user: Option<&[u8]>, path: &Path) -> Right
 
 /// Puts the right, and compares it with the one that was expected.
 fn tell<K: Sink>(right: Right, expected: Option<Right>, sink: &mut K) -> End
-    ensures { TellSays expected right (K.taken sink.old) (K.taken sink.new) (Rose (K.faults sink.old) (K.faults sink.new)) result }
+    ensures { TellSays expected right (K.taken sink.old) (K.taken sink.new)
+        (Rose (K.faults sink.old) (K.faults sink.new)) result }
 {
     match sink.put(right_line(right)) {
         Put::Done => judged(right, expected),

@@ -4,18 +4,15 @@
 
 mod asking;
 mod command;
-#[cfg(test)]
-mod connection_tests;
 mod end;
+mod inputs;
 mod opening;
 mod options;
 mod pipe;
-#[cfg(test)]
-mod reply_tests;
 mod running;
-#[cfg(test)]
-mod run_tests;
 mod status;
+#[cfg(test)]
+mod tests;
 mod unread;
 mod verb;
 mod words;

@@ -17,7 +17,8 @@ use std::alloc::Global;
 
 /// The bytes of a file.
 fn read_text<F: Files>(files: &mut F, name: &[u8]) -> Result<Bytes, Unread>
-    ensures bytes { ReadsFile (λ text. Holds (F.contents files.old) name.now text × (length text ≤ 268435456)) (λ line. ⊥) result }
+    ensures bytes { ReadsFile
+        (λ text. Holds (F.contents files.old) name.now text × (length text ≤ 268435456)) (λ line. ⊥) result }
     ensures same { F.contents files.new ≡ F.contents files.old }
     ensures cause { HasCause (F.faults files.old) (F.faults files.new) (is_failed_read result) }
 {
@@ -30,7 +31,8 @@ fn read_text<F: Files>(files: &mut F, name: &[u8]) -> Result<Bytes, Unread>
 
 /// Reads the script file and checks it.
 pub fn open_script<F: Files>(alloc: Global, files: &mut F, name: &[u8]) -> Result<Trees, Unread>
-    ensures bytes { ReadsFile (λ trees. IsScript (F.contents files.old) name.now (repository_of trees)) (IsNoScript (F.contents files.old) name.now) result }
+    ensures bytes { ReadsFile (λ trees. IsScript (F.contents files.old) name.now (repository_of trees))
+        (IsNoScript (F.contents files.old) name.now) result }
     ensures same { F.contents files.new ≡ F.contents files.old }
     ensures cause { HasCause (F.faults files.old) (F.faults files.new) (is_failed_read result) }
 {
@@ -44,7 +46,8 @@ pub fn open_script<F: Files>(alloc: Global, files: &mut F, name: &[u8]) -> Resul
 
 /// Reads the rules file and checks it.
 pub fn open_rules<F: Files>(alloc: Global, files: &mut F, name: &[u8]) -> Result<Rules, Unread>
-    ensures bytes { ReadsFile (AreRules (F.contents files.old) name.now) (AreNoRules (F.contents files.old) name.now) result }
+    ensures bytes { ReadsFile (AreRules (F.contents files.old) name.now)
+        (AreNoRules (F.contents files.old) name.now) result }
     ensures same { F.contents files.new ≡ F.contents files.old }
     ensures cause { HasCause (F.faults files.old) (F.faults files.new) (is_failed_read result) }
 {
@@ -67,7 +70,8 @@ fn refused_at(line: Option<u32>) -> Unread
 
 /// Reads the users file and checks it.
 pub fn open_users<F: Files>(alloc: Global, files: &mut F, name: &[u8]) -> Result<Users, Unread>
-    ensures bytes { ReadsFile (AreUsers (F.contents files.old) name.now) (AreNoUsers (F.contents files.old) name.now) result }
+    ensures bytes { ReadsFile (AreUsers (F.contents files.old) name.now)
+        (AreNoUsers (F.contents files.old) name.now) result }
     ensures same { F.contents files.new ≡ F.contents files.old }
     ensures cause { HasCause (F.faults files.old) (F.faults files.new) (is_failed_read result) }
 {

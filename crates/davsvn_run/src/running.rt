@@ -1,10 +1,11 @@
-ghost use Rattle.std.specs.Prelude.{◌≡◌, ◌↔◌, ◌⊎◌, None, []};
-ghost use Rattle.dsv_outside.specs.Causes.{Rose};
+ghost use Rattle.std.specs.Prelude.{◌≡◌, ◌↔◌, ◌⊎◌, None};
 ghost use Rattle.davsvn_run.specs.declared.end.End.{End};
 ghost use Rattle.davsvn_run.specs.Commands.{command};
-ghost use Rattle.davsvn_run.specs.Runs.{point, ForPipe, AreOpen, WorkSays};
+ghost use Rattle.davsvn_run.specs.Opening.{AreOpen};
+ghost use Rattle.davsvn_run.specs.Runs.{ForPipe, WorkSays};
+ghost use Rattle.davsvn_run.specs.Statuses.{number_of, IsReported};
 ghost use Rattle.davsvn_run.specs.Whole.{AreWhole};
-ghost use Rattle.davsvn_run.specs.Statuses.{number_of, line_of, TookLine};
+ghost use Rattle.davsvn_run.specs.Worlds.{IsUnread, IsUntouched, KeepsNothing, HasFault};
 
 use crate::status::{Status, put_line, status_of};
 use crate::work::work;
@@ -28,51 +29,31 @@ use std::alloc::Global;
 /// file), 8 (want of memory) or 9 (the right isn't that of `--is`). The errors take the status's
 /// line.
 ///
-/// What the clauses say of files, source, sink and clock they say where these tell it; the objects in
-/// memory do.
+/// What the clauses say of what files, source, sink and clock hold they say where these tell it; the
+/// objects in memory do.
 pub fn run<S: Source, K: Sink, E: Sink, C: Clock, F: Files, P: Keeper>(
     alloc: Global,
     words: &[Bytes],
     world: World<S, K, E, C, F, P>,
 ) -> (Status, World<S, K, E, C, F, P>)
-    // the run has an end, whose number is the status, whose line the errors took (without a line they
-    // aren't touched), and which came about as the command's own table of ends says
-    ensures says { (end : End) × (result.0.0 ≡ number_of end) × TookLine (E.taken world.errors) (E.taken result.1.errors) (line_of end) (Rose (E.faults world.errors) (E.faults result.1.errors)) × (line_of end ≡ [] → result.1.errors ≡ world.errors) × WorkSays (command words.now) (F.contents world.files) (point (S.left world.source) (K.taken world.sink) (C.readings world.clock)) (point (S.left result.1.source) (K.taken result.1.sink) (C.readings result.1.clock)) (S.over result.1.source) (Rose (S.faults world.source) (S.faults result.1.source)) (Rose (K.faults world.sink) (K.faults result.1.sink)) (Rose (F.faults world.files) (F.faults result.1.files)) end }
+    // the run has an end, whose number is the status, whose line the errors took, and which came about
+    // as the command's own table of ends says
+    ensures says { (end : End) × (result.0.0 ≡ number_of end) × IsReported end world result.1
+        × WorkSays (command words.now) world result.1 end }
     // 1: exactly where the words are none of the program's
     ensures usage { (result.0.0 ≡ 1) ↔ (command words.now ≡ None) }
     // .. and then nothing but the errors is touched
-    ensures untouched { command words.now ≡ None → (result.1.source ≡ world.source) × (result.1.sink ≡ world.sink) × (result.1.clock ≡ world.clock) × (result.1.files ≡ world.files) }
+    ensures untouched { command words.now ≡ None → IsUntouched world result.1 }
     // source and clock are touched only by `pipe`, and only where the three files are of their forms
-    ensures reached { ((result.1.source ≡ world.source) × (result.1.clock ≡ world.clock)) ⊎ ForPipe (command words.now) (AreOpen (F.contents world.files)) }
-    ensures contents { F.contents result.1.files ≡ F.contents world.files }
+    ensures reached { IsUnread world result.1 ⊎ ForPipe (command words.now) (AreOpen world.told.contents) }
+    // the keeper tells what it told, since as yet no request changes anything
+    ensures kept { KeepsNothing world.told result.1.told }
+    ensures contents { result.1.told.contents ≡ world.told.contents }
     // `pipe` over three files of their forms and whole requests, without a fault, is done, or wants memory
-    ensures complete { ForPipe (command words.now) (AreWhole (F.contents world.files) (S.left world.source)) → ¬ (Rose (S.faults world.source) (S.faults result.1.source)) → ¬ (Rose (K.faults world.sink) (K.faults result.1.sink)) → ¬ (Rose (F.faults world.files) (F.faults result.1.files)) → (result.0.0 ≡ 0) ⊎ (result.0.0 ≡ 8) }
+    ensures complete { ForPipe (command words.now) (AreWhole world.told.contents world.told.left) →
+        ¬ (HasFault world.told result.1.told) → (result.0.0 ≡ 0) ⊎ (result.0.0 ≡ 8) }
 {
-    let World {
-        mut source,
-        mut sink,
-        mut errors,
-        mut clock,
-        mut files,
-        keeper,
-    } = world;
-    let (end, keeper) = work(
-        alloc,
-        words,
-        &mut source,
-        &mut sink,
-        &mut clock,
-        &mut files,
-        keeper,
-    );
-    put_line(alloc, &end, &mut errors);
-    let world = World {
-        source,
-        sink,
-        errors,
-        clock,
-        files,
-        keeper,
-    };
+    let (end, mut world) = work(alloc, words, world);
+    put_line(alloc, &end, &mut world.errors);
     (status_of(&end), world)
 }

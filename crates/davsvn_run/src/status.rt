@@ -11,6 +11,11 @@ use std::alloc::Global;
 #[derive(Clone, Copy, Debug, PartialEq, Eq)]
 pub struct Status(pub u8);
 
+impl Status {
+    /// Memory was wanting.
+    pub const NO_MEMORY: Status = Status(8);
+}
+
 /// The status of an end.
 pub fn status_of(end: &End) -> Status
     ensures { result.0 ≡ number_of end.now }
@@ -23,14 +28,15 @@ pub fn status_of(end: &End) -> Status
         End::ReadFault => Status(4),
         End::WriteFault => Status(5),
         End::FileFault(_) => Status(6),
-        End::NoMemory => Status(8),
+        End::NoMemory => Status::NO_MEMORY,
         End::OtherRight => Status(9),
     }
 }
 
 /// Puts the line of an end, in one call, unless memory runs out.
 pub fn put_line<E: Sink>(alloc: Global, end: &End, errors: &mut E)
-    ensures line { TookLine (E.taken errors.old) (E.taken errors.new) (line_of end.now) (Rose (E.faults errors.old) (E.faults errors.new)) }
+    ensures line { TookLine (E.taken errors.old) (E.taken errors.new) (line_of end.now)
+        (Rose (E.faults errors.old) (E.faults errors.new)) }
     ensures quiet { line_of end.now ≡ [] → errors.new ≡ errors.old }
 {
     if let End::Well | End::OtherRight = end {

@@ -18,6 +18,7 @@ steps-init g c = record {
   far = begun _ _ _ _ _ c.new-front.ensures;
   opening = refl;
   pass = refl;
+  origin = refl;
   room = c.in-Ok.ensures.len;
   read = same _;
   written = same _;
@@ -25,7 +26,7 @@ steps-init g c = record {
 
 pub returns-in-Some-clause-says : goal.returns-in-Some-clause-says
 returns-in-Some-clause-says g c =
-    ends_now _ _ _ _ _ _ _ _ _ _ _ c.in-Some.end c.steps.invariant.opening c.steps.invariant.pass c.steps.invariant.far c.in-Some.ensures.says
+    ends_now _ _ _ _ _ _ _ _ _ _ c.in-Some.end c.steps.invariant.opening c.steps.invariant.pass c.steps.invariant.far c.in-Some.ensures.says
 
 pub returns-in-Some-clause-read : goal.returns-in-Some-clause-read
 returns-in-Some-clause-read g c = HasCause-earlier _ _ _ _ c.steps.invariant.read c.in-Some.ensures.read
@@ -35,13 +36,14 @@ returns-in-Some-clause-written g c = HasCause-earlier _ _ _ _ c.steps.invariant.
 
 pub steps-smaller : goal.steps-smaller
 steps-smaller g c =
-    smaller_now _ _ _ _ _ _ _ _ _ _ _ c.steps.invariant.opening c.steps.invariant.pass c.steps.invariant.far c.in-None.ensures.says
+    smaller_now _ _ _ _ _ _ _ _ _ _ c.steps.invariant.opening c.steps.invariant.pass c.steps.invariant.far c.in-None.ensures.says
 
 pub steps-preserved : goal.steps-preserved
 steps-preserved g c = record {
-  far = goes_on_now _ _ _ _ _ _ _ _ _ _ _ c.steps.invariant.opening c.steps.invariant.pass c.steps.invariant.far c.in-None.ensures.says;
+  far = goes_on_now _ _ _ _ _ _ _ _ _ _ c.steps.invariant.opening c.steps.invariant.pass c.steps.invariant.far c.in-None.ensures.says;
   opening = c.in-None.ensures.opening ∙ c.steps.invariant.opening;
   pass = c.in-None.ensures.pass ∙ c.steps.invariant.pass;
+  origin = c.in-None.ensures.origin ∙ c.steps.invariant.origin;
   room = c.steps.invariant.room;
   read = later _ _ _ c.steps.invariant.read c.in-None.ensures.read.later;
   written = later _ _ _ c.steps.invariant.written c.in-None.ensures.written.later;
