@@ -218,7 +218,7 @@ module _ {S K E C F P : Type 0} (p0 p q : WorldState S K E C F P) (same : p0 ≡
   pub served_at : (names : FileNames) (inputs : Inputs) → Opens p0.told.contents names (repository_of inputs.trees) inputs.rules inputs.users → (ended : ServeEnd) → ServingSays inputs read_world q ended → PipeSays names p q (end_of_serving ended)
   served_at names inputs opens ended serving =
       subst (λ (w : WorldState S K E C F P). PipeSays names w q (end_of_serving ended)) same
-          (served_run names p0 q (repository_of inputs.trees) inputs.rules inputs.users opens ended serving.served serving.read serving.written)
+      (served_run names p0 q (repository_of inputs.trees) inputs.rules inputs.users opens ended serving.served serving.read serving.written)
 
 -- .. or its sink takes a right; what is said speaks neither of the files nor of the errors
 module _ {S K E C F P : Type 0} (p0 p : WorldState S K E C F P) (same : p0 ≡ p) (sink : K) (taken : Option (List ℕ)) (write_faults file_faults : ℕ) where
