@@ -20,8 +20,6 @@ mod reading;
 mod replies;
 mod replying;
 mod solo;
-#[cfg(test)]
-mod tests;
 mod turn;
 
 pub use answer::Answer;

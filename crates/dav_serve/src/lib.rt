@@ -5,8 +5,6 @@
 mod laws;
 mod serving;
 mod steps;
-#[cfg(test)]
-mod tests;
 
 pub use dsv_outside::ServeEnd;
 pub use laws::beginnings_are_first;

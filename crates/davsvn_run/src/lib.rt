@@ -11,8 +11,6 @@ mod options;
 mod pipe;
 mod running;
 mod status;
-#[cfg(test)]
-mod tests;
 mod unread;
 mod verb;
 mod words;

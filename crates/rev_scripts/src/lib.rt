@@ -10,8 +10,6 @@ mod laws;
 mod parts;
 mod reader;
 mod script_fault;
-#[cfg(test)]
-mod tests;
 mod told;
 mod uuid;
 mod writer;
