@@ -12,7 +12,7 @@ use Rattle.std.proofs.lemmas.Bool.Decides.{nat_tests}
 use Rattle.std.proofs.lemmas.Grind.{common_steps}
 use Rattle.std.proofs.lemmas.List.Sorted.{searchable_from_sorted}
 use Rattle.authz_file.specs.declared.rule.Rule.{Rule}
-use Rattle.authz_check.specs.Order.{path_at, IsRising}
+use Rattle.authz_check.specs.Order.{rule_path, IsRising}
 
 abbrev pub order : List ℕ → List ℕ → Ordering
 order = slice_cmp nat_cmp
@@ -55,9 +55,9 @@ first_less Greater Equal h k = absurd (cc k)
 first_less Greater Greater h k = absurd (cc k)
 
 -- places in order stand before a text up to one of them, and then no more
-pub parted_by : (rules : List Rule) (places : List ℕ) (text : List ℕ) → IsRising rules places → IsPartitionedBy (λ place. is_lt (order (path_at rules place) text)) places
+pub parted_by : (rules : List Rule) (places : List ℕ) (text : List ℕ) → IsRising rules places → IsPartitionedBy (λ place. is_lt (order (rule_path rules place) text)) places
 parted_by rules places text rising i j d le within h =
-    first_less _ _ (searchable_from_sorted nat_list_cmp_total (path_at rules) places text rising i j d le within) h
+    first_less _ _ (searchable_from_sorted nat_list_cmp_total (rule_path rules) places text rising i j d le within) h
 
 -- what stands from a first point on and before a second one is in the slice between them
 pub between : (low high : ℕ → Bool) (xs : List ℕ) (s e : ℕ) → IsPartitionPoint (λ y. low y ≡ true) (λ y. low y ≡ false) xs s → IsPartitionPoint (λ y. high y ≡ true) (λ y. high y ≡ false) (take (length xs - s) (drop s xs)) e

@@ -10,8 +10,8 @@ use Rattle.authz_file.specs.declared.rule.Rule.{Rule}
 use Rattle.authz_check.specs.Everywhere.{speaks_of}
 
 -- the path of the rule at a place, and no text where there is no rule
-abbrev pub path_at : List Rule → ℕ → List ℕ
-path_at rules place = option_map_or (λ rule. rule.path) (slice_get rules place) []
+abbrev pub rule_path : List Rule → ℕ → List ℕ
+rule_path rules place = option_map_or (λ rule. rule.path) (slice_get rules place) []
 
 -- the place of each rule of a kind stands among these places
 abbrev pub HasEach : (Rule → Type 0) → List Rule → List ℕ → Type 0
@@ -19,7 +19,7 @@ HasEach Kind rules places = (i : ℕ) (rule : Rule) → slice_get rules i ≡ So
 
 -- the places stand in byte order of their rules' paths
 abbrev pub IsRising : List Rule → List ℕ → Type 0
-IsRising rules places = IsSortedBy (λ a b. is_lt (slice_cmp nat_cmp (path_at rules a) (path_at rules b))) places
+IsRising rules places = IsSortedBy (λ a b. is_lt (slice_cmp nat_cmp (rule_path rules a) (rule_path rules b))) places
 
 -- the places of the rules that speak of a repository, in order of their paths
 pub record IsOrder (name : List ℕ) (rules : List Rule) (places : List ℕ) : Type 0 where

@@ -9,7 +9,7 @@ ghost use Rattle.std.specs.Cmp.Lexicographic.{slice_cmp};
 ghost use Rattle.std.specs.Str.{bytes_eq};
 ghost use Rattle.dsv_base.specs.Paths.{is_under};
 ghost use Rattle.authz_check.specs.Everywhere.{speaks_of};
-ghost use Rattle.authz_check.specs.Order.{path_at, HasEach, IsRising, IsOrder};
+ghost use Rattle.authz_check.specs.Order.{rule_path, HasEach, IsRising, IsOrder};
 
 use crate::sections::speaks_of;
 use authz_file::Rule;
@@ -44,14 +44,14 @@ fn sort_places(rules: &[Rule], places: &mut [usize])
 {
     places.sort_unstable_by(
         |a: &usize, b: &usize| -> Ordering
-            ensures { result ≡ slice_cmp nat_cmp (path_at rules.entry.now a.now) (path_at rules.entry.now b.now) }
-        { path_at(rules, *a).cmp(path_at(rules, *b)) },
+            ensures { result ≡ slice_cmp nat_cmp (rule_path rules.entry.now a.now) (rule_path rules.entry.now b.now) }
+        { rule_path(rules, *a).cmp(rule_path(rules, *b)) },
     );
 }
 
 /// The text of the path of the rule at a place; nothing where there is no rule.
-fn path_at(rules: &[Rule], place: usize) -> &[u8]
-    ensures { result.now ≡ path_at rules.now place }
+fn rule_path(rules: &[Rule], place: usize) -> &[u8]
+    ensures { result.now ≡ rule_path rules.now place }
 {
     match rules.get(place) {
         Some(rule) => rule.path.text(),
@@ -62,7 +62,7 @@ fn path_at(rules: &[Rule], place: usize) -> &[u8]
 /// The places of the rules of exactly this path.
 pub fn places_at<'a>(rules: &[Rule], places: &'a [usize], path: &[u8]) -> &'a [usize]
     requires { IsRising rules.now places.now }
-    ensures { (i : ℕ) → Contains places.now i → path_at rules.now i ≡ path.now → Contains result.now i }
+    ensures { (i : ℕ) → Contains places.now i → rule_path rules.now i ≡ path.now → Contains result.now i }
 {
     places_between(rules, places, path, b"", b"\0")
 }
@@ -70,7 +70,7 @@ pub fn places_at<'a>(rules: &[Rule], places: &'a [usize], path: &[u8]) -> &'a [u
 /// The places of the rules of the sections below this path.
 pub fn places_below<'a>(rules: &[Rule], places: &'a [usize], path: &Path) -> &'a [usize]
     requires { IsRising rules.now places.now }
-    ensures { (i : ℕ) → Contains places.now i → is_under (path_at rules.now i) path.now ≡ true → bytes_eq (path_at rules.now i) path.now ≡ false → Contains result.now i }
+    ensures { (i : ℕ) → Contains places.now i → is_under (rule_path rules.now i) path.now ≡ true → bytes_eq (rule_path rules.now i) path.now ≡ false → Contains result.now i }
 {
     let text = path.text();
     if text == b"/".as_slice() {
@@ -89,7 +89,7 @@ fn places_between<'a>(
     high: &[u8],
 ) -> &'a [usize]
     requires { IsRising rules.now places.now }
-    ensures { (i : ℕ) → Contains places.now i → is_lt (slice_cmp nat_cmp (path_at rules.now i) (front.now ++ low.now)) ≡ false → is_lt (slice_cmp nat_cmp (path_at rules.now i) (front.now ++ high.now)) ≡ true → Contains result.now i }
+    ensures { (i : ℕ) → Contains places.now i → is_lt (slice_cmp nat_cmp (rule_path rules.now i) (front.now ++ low.now)) ≡ false → is_lt (slice_cmp nat_cmp (rule_path rules.now i) (front.now ++ high.now)) ≡ true → Contains result.now i }
 {
     let start = count_before(rules, places, front, low);
     let rest = &places[start..];
@@ -102,13 +102,13 @@ fn count_before(rules: &[Rule], places: &[usize], front: &[u8], tail: &[u8]) -> 
     requires { IsRising rules.now places.now }
     ensures bound { result ≤ length places.now }
     ensures parted { IsPartitionPoint
-        (λ place. is_lt (slice_cmp nat_cmp (path_at rules.now place) (front.now ++ tail.now)) ≡ true)
-        (λ place. is_lt (slice_cmp nat_cmp (path_at rules.now place) (front.now ++ tail.now)) ≡ false) places.now result }
+        (λ place. is_lt (slice_cmp nat_cmp (rule_path rules.now place) (front.now ++ tail.now)) ≡ true)
+        (λ place. is_lt (slice_cmp nat_cmp (rule_path rules.now place) (front.now ++ tail.now)) ≡ false) places.now result }
 {
     places.partition_point(
         |place: &usize| -> bool
-            ensures { result ≡ is_lt (slice_cmp nat_cmp (path_at rules.entry.now place.now) (front.entry.now ++ tail.entry.now)) }
-        { is_before(path_at(rules, *place), front, tail) },
+            ensures { result ≡ is_lt (slice_cmp nat_cmp (rule_path rules.entry.now place.now) (front.entry.now ++ tail.entry.now)) }
+        { is_before(rule_path(rules, *place), front, tail) },
     )
 }
 

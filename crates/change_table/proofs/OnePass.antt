@@ -14,14 +14,14 @@ use Rattle.rev_nodes.specs.declared.change.Change.{Change}
 use Rattle.rev_nodes.specs.declared.changed.Changed.{Changed}
 use Rattle.rev_nodes.specs.Trees.{TreeNode, Tree, at}
 use Rattle.rev_nodes.specs.ChangedPaths.{path_of, named_from, deletes, source_from, source_after, kept_path, changed_by, changed_at, changed_paths}
-use Rattle.change_table.specs.ChangeTables.{has_path, has_named_path}
+use Rattle.change_table.specs.ChangeTables.{HasPath, has_named_path}
 use Rattle.change_table.specs.ChangeTables.{LastChanges, noted, ChangeTable, last_at, noted_in, noted_from, deleted_in, deleted, source_of, kept_as, changed_as, changed_in, changed_by_table, TableIsChangedPaths}
 use Rattle.change_table.proofs.Noting.{IsLow, low_more, deletes_step, source_step}
 use Rattle.dsv_base.specs.Paths.{ancestors}
 
 -- what the table says of a path after all changes
 module _ (p : List ℕ) (one : is_path p ≡ true) where
-  deletes_all : (i : ℕ) (changes : List Change) (table : ChangeTable) → IsLow i table → All has_path changes → (before : Bool) → before ≡ is_some (deleted table p) → (before || list_any (deletes p) changes) ≡ is_some (deleted (noted_from i changes table) p)
+  deletes_all : (i : ℕ) (changes : List Change) (table : ChangeTable) → IsLow i table → All HasPath changes → (before : Bool) → before ≡ is_some (deleted table p) → (before || list_any (deletes p) changes) ≡ is_some (deleted (noted_from i changes table) p)
   deletes_all i [] table low all before e = no_more before ∙ e
     where
       no_more : (b : Bool) → (b || false) ≡ b
@@ -29,16 +29,16 @@ module _ (p : List ℕ) (one : is_path p ≡ true) where
       no_more false = refl
   deletes_all i (change ∷ changes) table low all before e =
       regroup before (deletes p change) (list_any (deletes p) changes)
-      ∙ deletes_all (i + 1) changes (noted_in i change table) (low_more i table low change) (All-tail has_path change changes all) (before || deletes p change) (deletes_step i table low p one change (All-head has_path change changes all) before e)
+      ∙ deletes_all (i + 1) changes (noted_in i change table) (low_more i table low change) (All-tail HasPath change changes all) (before || deletes p change) (deletes_step i table low p one change (All-head HasPath change changes all) before e)
     where
       regroup : (a b c : Bool) → (a || (b || c)) ≡ ((a || b) || c)
       regroup true b c = refl
       regroup false b c = refl
 
-  source_all : (i : ℕ) (changes : List Change) (table : ChangeTable) → IsLow i table → All has_path changes → (before : Option (List ℕ × ℕ)) → before ≡ source_of table p → source_from p changes before ≡ source_of (noted_from i changes table) p
+  source_all : (i : ℕ) (changes : List Change) (table : ChangeTable) → IsLow i table → All HasPath changes → (before : Option (List ℕ × ℕ)) → before ≡ source_of table p → source_from p changes before ≡ source_of (noted_from i changes table) p
   source_all i [] table low all before e = e
   source_all i (change ∷ changes) table low all before e =
-      source_all (i + 1) changes (noted_in i change table) (low_more i table low change) (All-tail has_path change changes all) (source_after p change before) (source_step i table low p one change (All-head has_path change changes all) before e)
+      source_all (i + 1) changes (noted_in i change table) (low_more i table low change) (All-tail HasPath change changes all) (source_after p change before) (source_step i table low p one change (All-head HasPath change changes all) before e)
 
   none_deleted : (ps : List (List ℕ)) → deleted_in [] ps ≡ None
   none_deleted [] = refl
@@ -47,10 +47,10 @@ module _ (p : List ℕ) (one : is_path p ≡ true) where
   empty_low : IsLow 0 []
   empty_low = record { deletes_low = λ q d e. absurd (cc e); copies_low = λ q c e. absurd (cc e) }
 
-  pub deletes_whole : (changes : List Change) → All has_path changes → list_any (deletes p) changes ≡ is_some (deleted (noted_from 0 changes []) p)
+  pub deletes_whole : (changes : List Change) → All HasPath changes → list_any (deletes p) changes ≡ is_some (deleted (noted_from 0 changes []) p)
   deletes_whole changes all = deletes_all 0 changes [] empty_low all false (sym (ap is_some (none_deleted (ancestors p))))
 
-  pub source_whole : (changes : List Change) → All has_path changes → source_from p changes None ≡ source_of (noted_from 0 changes []) p
+  pub source_whole : (changes : List Change) → All HasPath changes → source_from p changes None ≡ source_of (noted_from 0 changes []) p
   source_whole changes all = source_all 0 changes [] empty_low all None refl
 
 -- ---- the named paths
@@ -84,9 +84,9 @@ keys-put path last (e ∷ es) one all = by (slice_cmp nat_cmp path e.0) (λ rest
     by Equal go = all
     by Greater go = let p = and_parts (has_key e) (list_all has_key es) all in and_from _ _ p.0 (go p.1)
 
-keys-from : (i : ℕ) (changes : List Change) (table : ChangeTable) → All has_path changes → list_all has_key table ≡ true → list_all has_key (noted_from i changes table) ≡ true
+keys-from : (i : ℕ) (changes : List Change) (table : ChangeTable) → All HasPath changes → list_all has_key table ≡ true → list_all has_key (noted_from i changes table) ≡ true
 keys-from i [] table all keys = keys
-keys-from i (change ∷ changes) table all keys = keys-from (i + 1) changes (noted_in i change table) (All-tail has_path change changes all) (keys-put (path_of change) (noted i change (last_at (path_of change) table)) table (All-head has_path change changes all) keys)
+keys-from i (change ∷ changes) table all keys = keys-from (i + 1) changes (noted_in i change table) (All-tail HasPath change changes all) (keys-put (path_of change) (noted i change (last_at (path_of change) table)) table (All-head HasPath change changes all) keys)
 
 -- ---- the list
 
@@ -100,12 +100,12 @@ as_by path changes (Some was) (Some now) = ap Some (either (list_any (deletes pa
     either true = refl
     either false = refl
 
-one_path : (changes : List Change) (before after : Tree) → All has_path changes → (e : List ℕ × LastChanges) → is_path e.0 ≡ true → changed_in (noted_from 0 changes []) before after e ≡ changed_at changes before after e.0
+one_path : (changes : List Change) (before after : Tree) → All HasPath changes → (e : List ℕ × LastChanges) → is_path e.0 ≡ true → changed_in (noted_from 0 changes []) before after e ≡ changed_at changes before after e.0
 one_path changes before after all e one =
     (λ i. changed_as e.0 (sym (deletes_whole e.0 one changes all) i) (sym (source_whole e.0 one changes all) i) (at e.0 before) (at e.0 after))
     ∙ as_by e.0 changes (at e.0 before) (at e.0 after)
 
-all_paths : (changes : List Change) (before after : Tree) → All has_path changes → (entries : ChangeTable) → list_all has_key entries ≡ true → filter_map (changed_in (noted_from 0 changes []) before after) entries ≡ filter_map (λ named. changed_at changes before after named.0) (map name entries)
+all_paths : (changes : List Change) (before after : Tree) → All HasPath changes → (entries : ChangeTable) → list_all has_key entries ≡ true → filter_map (changed_in (noted_from 0 changes []) before after) entries ≡ filter_map (λ named. changed_at changes before after named.0) (map name entries)
 all_paths changes before after all [] keys = refl
 all_paths changes before after all (e ∷ es) keys =
     let p = and_parts (has_key e) (list_all has_key es) keys in
@@ -117,9 +117,9 @@ fast_is = λ changes before after all.
     all_paths changes before after all (noted_from 0 changes []) (keys-from 0 changes [] all refl)
     ∙ ap (filter_map (λ named. changed_at changes before after named.0)) (names-from 0 changes [])
 
-all_from : (changes : List Change) → list_all has_named_path changes ≡ true → All has_path changes
-all_from [] h = All-nil has_path
-all_from (change ∷ changes) h = let p = and_parts (has_named_path change) (list_all has_named_path changes) h in All-cons has_path change changes p.0 (all_from changes p.1)
+all_from : (changes : List Change) → list_all has_named_path changes ≡ true → All HasPath changes
+all_from [] h = All-nil HasPath
+all_from (change ∷ changes) h = let p = and_parts (has_named_path change) (list_all has_named_path changes) h in All-cons HasPath change changes p.0 (all_from changes p.1)
 
 opened : (changes : List Change) (before after : Tree) → filter_map (changed_in (noted_from 0 changes []) before after) (noted_from 0 changes []) ≡ changed_by_table changes before after
 unfolding changed_by_table

@@ -18,8 +18,8 @@ abbrev pub has_named_path : Change → Bool
 has_named_path change = is_path (path_of change)
 
 -- the path that a change names is one, as a fact
-abbrev pub has_path : Change → Type 0
-has_path change = IsTrue (has_named_path change)
+abbrev pub HasPath : Change → Type 0
+HasPath change = IsTrue (has_named_path change)
 
 -- the number and the source of the last copy to a path, and the number of the last delete of it
 pub record LastChanges : Type 0 where
@@ -108,4 +108,4 @@ changed_by_table changes before after = filter_map (changed_in (noted_from 0 cha
 
 -- they are the changed paths of the commit
 abbrev pub TableIsChangedPaths : Type 0
-TableIsChangedPaths = (changes : List Change) (before after : Tree) → All has_path changes → changed_by_table changes before after ≡ changed_paths changes before after
+TableIsChangedPaths = (changes : List Change) (before after : Tree) → All HasPath changes → changed_by_table changes before after ≡ changed_paths changes before after

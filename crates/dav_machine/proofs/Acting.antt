@@ -5,7 +5,7 @@ use Rattle.dav_machine.specs.declared.answer.Answer.{Answer}
 use Rattle.dav_machine.specs.declared.call.Call.{Call}
 use Rattle.dav_machine.specs.declared.event.Event.{Event}
 use Rattle.dav_machine.specs.Histories.{HistoryEntry, replay}
-use Rattle.dav_machine.specs.Hubs.{IsHubOf, entries_of, events_of}
+use Rattle.dav_machine.specs.Hubs.{IsHubOf, entries_by_events, events_of}
 use Rattle.dav_machine.specs.States.{State, youngest_of}
 use Rattle.dav_machine.specs.Turns.{Acted, RepliesOnly}
 
@@ -29,12 +29,12 @@ answered opening state history first now call answer hub replies at_front not_ow
 })
 
 -- each event has its name, so that all events are among the entries
-pub events_of-entries : (events : List Event) (names : List (List ℕ)) → length names ≡ length events → events_of (entries_of events names) ≡ events
+pub events_of-entries : (events : List Event) (names : List (List ℕ)) → length names ≡ length events → events_of (entries_by_events events names) ≡ events
 events_of-entries [] names e = refl
 events_of-entries (event ∷ events) [] e = absurd (omega (arith, e))
 events_of-entries (event ∷ events) (name ∷ names) e = ap (λ (es : List Event). event ∷ es) (events_of-entries events names (omega (arith, e)))
 
-pub length-entries : (events : List Event) (names : List (List ℕ)) → length names ≡ length events → length (entries_of events names) ≡ length events
+pub length-entries : (events : List Event) (names : List (List ℕ)) → length names ≡ length events → length (entries_by_events events names) ≡ length events
 length-entries [] names e = refl
 length-entries (event ∷ events) [] e = absurd (omega (arith, e))
 length-entries (event ∷ events) (name ∷ names) e = ap (λ (n : ℕ). suc n) (length-entries events names (omega (arith, e)))

@@ -42,10 +42,10 @@ pub record IsHubOf (opening state : State) (history : List HistoryEntry) (first 
   pub failed : (first + failures history ≤ now) ⊎ (last_count ≤ now)
 
 -- the events with the names of their users
-abbrev pub entries_of : List Event → List (List ℕ) → List HistoryEntry
-entries_of [] names = []
-entries_of (event ∷ events) [] = []
-entries_of (event ∷ events) (name ∷ names) = record { event = event; name = name } ∷ entries_of events names
+abbrev pub entries_by_events : List Event → List (List ℕ) → List HistoryEntry
+entries_by_events [] names = []
+entries_by_events (event ∷ events) [] = []
+entries_by_events (event ∷ events) (name ∷ names) = record { event = event; name = name } ∷ entries_by_events events names
 
 -- the events of a history
 abbrev pub events_of : List HistoryEntry → List Event

@@ -17,12 +17,12 @@ pub record Child : Type 0 where
   pub kind : Kind
 
 -- the child that a place of a tree is, if it is one of the directory
-abbrev pub child_in : List ℕ → List ℕ × TreeNode → Option Child
-child_in directory place = if is_child directory place.0 then Some (record { name = name_of place.0; kind = place.1.node.kind }) else None
+abbrev pub listed_child : List ℕ → List ℕ × TreeNode → Option Child
+listed_child directory place = if is_child directory place.0 then Some (record { name = name_of place.0; kind = place.1.node.kind }) else None
 
 -- what stands in a directory, in byte order of the names
 abbrev pub children_in : Tree → List ℕ → List Child
-children_in tree directory = filter_map (child_in directory) tree
+children_in tree directory = filter_map (listed_child directory) tree
 
 -- a directory's name ends with a slash
 abbrev pub slash_of : Kind → List ℕ
@@ -43,10 +43,10 @@ abbrev pub link_item : List ℕ → List ℕ → Written
 link_item href text = element (codes "li") [] (text_element (codes "a") (attribute (codes "href") href ∷ []) text)
 
 -- the item of a child
-abbrev pub item_of : List ℕ → Resource → List ℕ → Child → Written
-item_of root resource directory child = link_item (href_of root resource directory child) (child.name ++ slash_of child.kind)
+abbrev pub listed_item : List ℕ → Resource → List ℕ → Child → Written
+listed_item root resource directory child = link_item (href_of root resource directory child) (child.name ++ slash_of child.kind)
 
 -- the page that lists the children of the directory that the resource names
 unfoldable pub listing_text : List ℕ → Resource → List ℕ → List Child → List ℕ
 listing_text root resource directory children =
-    codes "<html><body><ul>" ++ written_text (for_each (item_of root resource directory) children) ++ codes "</ul></body></html>\n"
+    codes "<html><body><ul>" ++ written_text (for_each (listed_item root resource directory) children) ++ codes "</ul></body></html>\n"

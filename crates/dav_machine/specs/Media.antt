@@ -7,8 +7,8 @@ use Rattle.dsv_base.specs.TextFiles.{trimmed}
 use Rattle.dsv_base.specs.declared.prop.Prop.{Prop}
 
 -- the value of the property of this name, if it is there
-abbrev pub value_of : List ℕ → List Prop → Option (List ℕ)
-value_of name props = option_map (λ prop. prop.value) (find (λ prop. bytes_eq prop.name name) props)
+abbrev pub prop_value : List ℕ → List Prop → Option (List ℕ)
+prop_value name props = option_map (λ prop. prop.value) (find (λ prop. bytes_eq prop.name name) props)
 
 -- a byte that a field's value may have: a blank, or a visible character of ASCII
 abbrev pub is_field_byte : ℕ → Bool
@@ -20,4 +20,4 @@ is_media_type value = nat_le 1 (length value) && nat_le (length value) 128 && li
 
 -- what `svn:mime-type` says, where it can be told, and else plain text (the Book, "File Content Type")
 unfoldable pub media_type : List Prop → List ℕ
-media_type props = option_map_or (λ value. if is_media_type value then value else codes "text/plain") (value_of (codes "svn:mime-type") props) (codes "text/plain")
+media_type props = option_map_or (λ value. if is_media_type value then value else codes "text/plain") (prop_value (codes "svn:mime-type") props) (codes "text/plain")

@@ -38,7 +38,7 @@ pub struct Hub<K: Keeper> {
 
 impl<K: Keeper> Model for Hub<K> {
     ghost use Rattle.std.specs.Prelude.{◌≡◌, length};
-    ghost use Rattle.dav_machine.specs.Hubs.{HubState, IsHubOf, entries_of};
+    ghost use Rattle.dav_machine.specs.Hubs.{HubState, IsHubOf, entries_by_events};
     ghost use Rattle.dav_machine.specs.Presents.{state_of};
 
     ghost Value = { HubState K };
@@ -47,7 +47,7 @@ impl<K: Keeper> Model for Hub<K> {
       opening = state_of h.opening.value;
       trees = h.present.trees;
       rules = h.present.rules;
-      history = entries_of h.history.items h.names.items;
+      history = entries_by_events h.history.items h.names.items;
       first_keeper = h.first_keeper.value;
       keeper = h.keeper;
     } };
@@ -56,7 +56,7 @@ impl<K: Keeper> Model for Hub<K> {
     ghost invariant = { λ h.
         (length h.names.items ≡ length h.history.items)
         × (h.keeper ≡ h.first_keeper.value)
-        × IsHubOf (state_of h.opening.value) (state_of h.present) (entries_of h.history.items h.names.items)
+        × IsHubOf (state_of h.opening.value) (state_of h.present) (entries_by_events h.history.items h.names.items)
         (K.faults h.first_keeper.value) (K.faults h.keeper) };
 }
 

@@ -7,7 +7,7 @@ ghost use Rattle.dav_documents.specs.Drafts.{with_elements};
 ghost use Rattle.dav_documents.specs.Written.{for_each};
 ghost use Rattle.dav_names.specs.Written.{target_text};
 ghost use Rattle.log_access.specs.Shown.{nodes_in};
-ghost use Rattle.dav_machine.specs.Listings.{children_in, at_path, slash_of, link_item, item_of, listing_text};
+ghost use Rattle.dav_machine.specs.Listings.{children_in, at_path, slash_of, link_item, listed_item, listing_text};
 ghost use Rattle.dav_machine.specs.Presents.{root_in, may_read, shown_to};
 ghost use Rattle.dav_machine.specs.ShownEntries.{shown_entry, shown_entries, StandsIn};
 
@@ -53,7 +53,7 @@ fn put_entries(
     requires stand { All (StandsIn present.now.trees at.now.rev at.now.path.now) entries.now }
     ensures { OnOk result
         (out.new ≡ with_elements
-        (for_each (item_of (root_in present.now) at.now.resource.now at.now.path.now)
+        (for_each (listed_item (root_in present.now) at.now.resource.now at.now.path.now)
         (shown_entries (may_read present.now (option_copied user.entry))
         present.now.trees at.now.rev at.now.path.now entries.now))
         out.old) }
@@ -76,7 +76,7 @@ fn put_entry(
     requires stands { StandsIn present.now.trees at.now.rev at.now.path.now entry.now }
     ensures { OnOk result
         (out.new ≡ with_elements
-        (for_each (item_of (root_in present.now) at.now.resource.now at.now.path.now)
+        (for_each (listed_item (root_in present.now) at.now.resource.now at.now.path.now)
         (option_to_list
         (shown_entry (may_read present.now (option_copied user.entry))
         present.now.trees at.now.rev at.now.path.now entry.now)))

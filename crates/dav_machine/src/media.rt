@@ -1,7 +1,7 @@
 ghost use Rattle.std.specs.Prelude.{◌≡◌};
 ghost use Rattle.std.specs.List.{list_all};
 ghost use Rattle.std.specs.Option.{option_copied};
-ghost use Rattle.dav_machine.specs.Media.{value_of, is_field_byte, is_media_type, media_type};
+ghost use Rattle.dav_machine.specs.Media.{prop_value, is_field_byte, is_media_type, media_type};
 
 use dsv_base::{Prop, trimmed};
 
@@ -14,15 +14,15 @@ const MOST_BYTES: usize = 128;
 pub fn media_type(props: &[Prop]) -> &[u8]
     ensures { result.now ≡ media_type props.now }
 {
-    match value_of(b"svn:mime-type", props) {
+    match prop_value(b"svn:mime-type", props) {
         Some(value) if is_media_type(value) => value,
         _ => b"text/plain",
     }
 }
 
 /// The value of the property of this name.
-fn value_of<'a>(name: &[u8], props: &'a [Prop]) -> Option<&'a [u8]>
-    ensures { option_copied result ≡ value_of name.now props.now }
+fn prop_value<'a>(name: &[u8], props: &'a [Prop]) -> Option<&'a [u8]>
+    ensures { option_copied result ≡ prop_value name.now props.now }
 {
     props
         .iter()

@@ -7,7 +7,3 @@ use Rattle.dav_replies.specs.declared.refusal.Refusal.TheVariants.{NoMemory}
 abbrev pub refusal_no_memory : Refusal → Bool
 refusal_no_memory NoMemory = true
 refusal_no_memory _ = false
-
--- the same under its former name, as long as crates above say it so
-abbrev pub is_no_memory : Refusal → Bool
-is_no_memory = refusal_no_memory

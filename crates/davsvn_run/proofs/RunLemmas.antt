@@ -13,7 +13,7 @@ use Rattle.davsvn_run.specs.declared.unread.Unread.{Unread}
 use Rattle.davsvn_run.specs.declared.unread.Unread.TheVariants as unread
 use Rattle.davsvn_run.specs.Commands.{Command, Pipe, AccessOf, FileNames, Question}
 use Rattle.davsvn_run.specs.Opening.{IsScript, AreRules, AreNoRules, AreUsers, AreNoUsers, ReadsFile, is_failed_read, end_of, Opens, AreOpen, IsUnopened}
-use Rattle.davsvn_run.specs.Worlds.{Contents, Told, WorldState, IsUnread, IsUnserved, IsUntouched, IsUnreported}
+use Rattle.davsvn_run.specs.Worlds.{Contents, WorldTold, WorldState, IsUnread, IsUnserved, IsUntouched, IsUnreported}
 use Rattle.dsv_outside.specs.declared.serve_end.ServeEnd.{ServeEnd}
 use Rattle.dsv_outside.specs.declared.serve_end.ServeEnd.TheVariants as serve_end
 use Rattle.dav_serve.specs.Serves.{is_read_fault, is_write_fault}
@@ -23,7 +23,7 @@ use Rattle.davsvn_run.specs.Asking.{right_asked}
 use Rattle.davsvn_run.specs.Runs.{Served, ServedBy, PipeSays, TellSays, AskSays, WorkSays, ForPipe}
 use Rattle.davsvn_run.specs.declared.inputs.Inputs.{Inputs}
 use Rattle.davsvn_run.specs.Serving.{end_of_serving, ServingSays}
-use Rattle.davsvn_run.specs.Statuses.{number_of, line_of, TookLine, IsReported}
+use Rattle.davsvn_run.specs.Statuses.{number_of, end_line, TookLine, IsReported}
 
 -- ---- the three files
 
@@ -249,15 +249,15 @@ module _ {S K E C F P : Type 0} (p q0 q : WorldState S K E C F P) (same : q0 ≡
     works_after : (words : Option Command) (end : End) → WorkSays words p q end → WorkSays words p after end
     works_after words end s = says_reported p q0 errors taken faults words end (works_before words end s)
 
-    reported_after : (end : End) → IsUnreported p q → TookLine q0.told.errors_taken taken (line_of end) (Rose q0.told.error_faults faults) → (line_of end ≡ [] → errors ≡ q0.errors) → IsReported end p after
+    reported_after : (end : End) → IsUnreported p q → TookLine q0.told.errors_taken taken (end_line end) (Rose q0.told.error_faults faults) → (end_line end ≡ [] → errors ≡ q0.errors) → IsReported end p after
     reported_after end kept line quiet =
         let before : IsUnreported p q0 = subst (λ (w : WorldState S K E C F P). IsUnreported p w) (sym same) kept in (
-          subst (λ (t : Option (List ℕ)). TookLine t taken (line_of end) (Rose p.told.error_faults faults)) before.1
-              (subst (λ (n : ℕ). TookLine q0.told.errors_taken taken (line_of end) (Rose n faults)) before.2 line),
+          subst (λ (t : Option (List ℕ)). TookLine t taken (end_line end) (Rose p.told.error_faults faults)) before.1
+              (subst (λ (n : ℕ). TookLine q0.told.errors_taken taken (end_line end) (Rose n faults)) before.2 line),
           λ none. quiet none ∙ before.0,
         )
 
     -- what `run` says
-    pub run_says : (words : Option Command) (status : ℕ) (end : End) → status ≡ number_of end → IsUnreported p q → WorkSays words p q end → TookLine q0.told.errors_taken taken (line_of end) (Rose q0.told.error_faults faults) → (line_of end ≡ [] → errors ≡ q0.errors)
+    pub run_says : (words : Option Command) (status : ℕ) (end : End) → status ≡ number_of end → IsUnreported p q → WorkSays words p q end → TookLine q0.told.errors_taken taken (end_line end) (Rose q0.told.error_faults faults) → (end_line end ≡ [] → errors ≡ q0.errors)
         → (end : End) × (status ≡ number_of end) × IsReported end p after × WorkSays words p after end
     run_says words status end number kept says line quiet = (end, number, reported_after end kept line quiet, works_after words end says)

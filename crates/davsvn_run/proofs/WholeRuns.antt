@@ -19,7 +19,7 @@ use Rattle.davsvn_run.specs.Opening.{FileIs, Opens, IsBadFile}
 use Rattle.davsvn_run.specs.Runs.{Served, PipeSays, WorkSays, ForPipe}
 use Rattle.davsvn_run.specs.Statuses.{number_of}
 use Rattle.davsvn_run.specs.Whole.{IsDone, IsWhole, AreWhole}
-use Rattle.davsvn_run.specs.Worlds.{Contents, Told, WorldState, HasFault}
+use Rattle.davsvn_run.specs.Worlds.{Contents, WorldTold, WorldState, HasFault}
 
 -- all that was left was taken, where nothing is left
 taken_whole : (input bytes : List ℕ) (left : Option (List ℕ)) → Consumes (Some input) left bytes → NothingLeft (Some input) left → bytes ≡ input
@@ -49,7 +49,7 @@ module _ (files : List (List ℕ × List ℕ)) where
       not_bad users_of names.users users _ opens.users_file.0 x.5.0 opens.users_file.1 opens.users_file.2 x.5.1 x.5.2
 
   -- an input that is whole doesn't break off
-  not_broken : (names : FileNames) (repository : Repository) (rules : Rules) (users : List User) → Opens (Some files) names repository rules users → (input : List ℕ) → IsWhole users input → (p q : Told)
+  not_broken : (names : FileNames) (repository : Repository) (rules : Rules) (users : List User) → Opens (Some files) names repository rules users → (input : List ℕ) → IsWhole users input → (p q : WorldTold)
       → p.contents ≡ Some files → p.left ≡ Some input → Served names p q serve_end.BrokeOff → ⊥
   not_broken names repository rules users opens input whole p q holds has s =
       let users_file = subst (λ (k : Contents). FileIs (λ t. users_of t ≡ Ok s.users) k names.users) holds s.opens.users_file in

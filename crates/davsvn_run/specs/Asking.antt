@@ -16,13 +16,13 @@ right_everywhere rules name user path =
     if all_access rules name user path Read then Read else No
 
 -- the user's right at the path, or with `recursive` the one that is held at every path under it, too
-abbrev pub right_in : List Rule → List ℕ → Option (List ℕ) → List ℕ → Bool → Right
-right_in rules name user path recursive =
+abbrev pub right_by : List Rule → List ℕ → Option (List ℕ) → List ℕ → Bool → Right
+right_by rules name user path recursive =
     if recursive then right_everywhere rules name user path else access rules name user path
 
 -- the right that is asked for
 abbrev pub right_asked : List Rule → Question → List ℕ → Right
-right_asked rules question path = right_in rules question.repos question.user path question.recursive
+right_asked rules question path = right_by rules question.repos question.user path question.recursive
 
 -- a right as it is printed
 abbrev pub right_line : Right → List ℕ

@@ -16,19 +16,19 @@ use Rattle.davsvn_run.specs.declared.end.End.TheVariants as end
 use Rattle.davsvn_run.specs.Asking.{right_asked, right_line, is_expected}
 use Rattle.davsvn_run.specs.Commands.{Command, Pipe, AccessOf, FileNames, Question}
 use Rattle.davsvn_run.specs.Opening.{Opens, AreRules, AreNoRules, IsBadFile, IsNextFile}
-use Rattle.davsvn_run.specs.Worlds.{Told, WorldState, point_of, IsUnread, IsUnserved, IsUntouched}
+use Rattle.davsvn_run.specs.Worlds.{WorldTold, WorldState, point_of, IsUnread, IsUnserved, IsUntouched}
 
 -- ---- `pipe`
 
 -- between what was told before and after, a connection was served as the one pass of a machine that opens on these,
 -- and ended so
-abbrev pub ServedBy : Repository → Rules → List User → Told → Told → ServeEnd → Type 0
+abbrev pub ServedBy : Repository → Rules → List User → WorldTold → WorldTold → ServeEnd → Type 0
 ServedBy repository rules users p q ended =
     (history : List HistoryEntry)
     × Serves (opening_state repository rules.list) 0 users (point_of [] p) (point_of history q) ended
 
 -- .. and these are what the three files give
-pub record Served (names : FileNames) (p q : Told) (ended : ServeEnd) : Type 0 where
+pub record Served (names : FileNames) (p q : WorldTold) (ended : ServeEnd) : Type 0 where
   pub repository : Repository
   pub rules : Rules
   pub users : List User
@@ -68,14 +68,14 @@ TellSays expected right old new sink_rose end.NoMemory = Keeps old new
 TellSays expected right old new sink_rose _ = ⊥
 
 -- the sink took the right that is asked for, and whether it is the expected one is as told
-abbrev pub TookRight : Question → List ℕ → Told → Told → Bool → Type 0
+abbrev pub TookRight : Question → List ℕ → WorldTold → WorldTold → Bool → Type 0
 TookRight question path p q expected =
     (rules : Rules) × AreRules p.contents question.rules rules
     × (is_expected question.expected (right_asked rules.list question path) ≡ expected)
     × Appends p.taken q.taken (right_line (right_asked rules.list question path))
 
 -- the sink failed, and took some first bytes of that right
-abbrev pub TookSomeOfRight : Question → List ℕ → Told → Told → Type 0
+abbrev pub TookSomeOfRight : Question → List ℕ → WorldTold → WorldTold → Type 0
 TookSomeOfRight question path p q =
     (rules : Rules) × AreRules p.contents question.rules rules
     × TookFront p.taken q.taken (right_line (right_asked rules.list question path))

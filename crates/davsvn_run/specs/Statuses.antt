@@ -21,16 +21,16 @@ number_of NoMemory = 8
 number_of OtherRight = 9
 
 -- the line of an end; empty where it has none
-abbrev pub line_of : End → List ℕ
-line_of Well = []
-line_of Usage = codes "davsvn: usage\n"
-line_of (BadFile name line) = codes "davsvn: " ++ name ++ codes ": line " ++ decimal line ++ codes "\n"
-line_of BrokeOff = codes "davsvn: input broke off\n"
-line_of ReadFault = codes "davsvn: read fault\n"
-line_of WriteFault = codes "davsvn: write fault\n"
-line_of (FileFault name) = codes "davsvn: file fault: " ++ name ++ codes "\n"
-line_of NoMemory = codes "davsvn: no memory\n"
-line_of OtherRight = []
+abbrev pub end_line : End → List ℕ
+end_line Well = []
+end_line Usage = codes "davsvn: usage\n"
+end_line (BadFile name line) = codes "davsvn: " ++ name ++ codes ": line " ++ decimal line ++ codes "\n"
+end_line BrokeOff = codes "davsvn: input broke off\n"
+end_line ReadFault = codes "davsvn: read fault\n"
+end_line WriteFault = codes "davsvn: write fault\n"
+end_line (FileFault name) = codes "davsvn: file fault: " ++ name ++ codes "\n"
+end_line NoMemory = codes "davsvn: no memory\n"
+end_line OtherRight = []
 
 -- the sink took the line, or nothing for want of memory, or some first bytes of it where its count rose
 abbrev pub TookLine : Option (List ℕ) → Option (List ℕ) → List ℕ → Type 0 → Type 0
@@ -40,5 +40,5 @@ TookLine old new line rose = Appends old new line ⊎ Keeps old new ⊎ (rose ×
 abbrev pub IsReported :
     {S K E C F P : Type 0} → End → WorldState S K E C F P → WorldState S K E C F P → Type 0
 IsReported end p q =
-    TookLine p.told.errors_taken q.told.errors_taken (line_of end) (Rose p.told.error_faults q.told.error_faults)
-    × (line_of end ≡ [] → q.errors ≡ p.errors)
+    TookLine p.told.errors_taken q.told.errors_taken (end_line end) (Rose p.told.error_faults q.told.error_faults)
+    × (end_line end ≡ [] → q.errors ≡ p.errors)

@@ -10,8 +10,8 @@ use Rattle.davsvn_run.specs.Options.{with_option, read_options}
 use Rattle.davsvn_run.specs.Commands.{Command, Pipe, AccessOf, FileNames, Question, command}
 
 -- the names of files, as lists
-abbrev pub names_in : declared_names.FileNames → FileNames
-names_in names = record { script = names.script.now; rules = names.rules.now; users = names.users.now }
+abbrev pub file_names_in : declared_names.FileNames → FileNames
+file_names_in names = record { script = names.script.now; rules = names.rules.now; users = names.users.now }
 
 -- a question, with its texts as lists
 abbrev pub question_in : declared_question.Question → Question
@@ -25,7 +25,7 @@ question_in question = record {
 
 -- a command, with its texts as lists
 abbrev pub command_in : declared.Command → Command
-command_in (declared_variants.Pipe names) = Pipe (names_in names)
+command_in (declared_variants.Pipe names) = Pipe (file_names_in names)
 command_in (declared_variants.AccessOf question path) = AccessOf (question_in question) path
 
 -- the name of the script, of a command that has one

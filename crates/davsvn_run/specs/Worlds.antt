@@ -11,7 +11,7 @@ Contents = Option (List (List ℕ × List ℕ))
 -- the bytes that the source has left, whether it is over, and its count of faults; the bytes that the sink has taken,
 -- and its count; the same of the errors; the clock's readings; what the files hold, and their count; the revisions with
 -- their texts that the keeper has kept, and its count. Counts are always told, the others where the part tells them
-pub record Told : Type 0 where
+pub record WorldTold : Type 0 where
   pub left : Option (List ℕ)
   pub over : Bool
   pub read_faults : ℕ
@@ -33,10 +33,10 @@ pub record WorldState (S K E C F P : Type 0) : Type 0 where
   pub clock : C
   pub files : F
   pub keeper : P
-  pub told : Told
+  pub told : WorldTold
 
 -- a connection over these parts, after this history
-abbrev pub point_of : List HistoryEntry → Told → Point
+abbrev pub point_of : List HistoryEntry → WorldTold → Point
 point_of history told = record {
   history = history;
   left = told.left;
@@ -64,10 +64,10 @@ IsUnreported p q =
     × (q.told.error_faults ≡ p.told.error_faults)
 
 -- the keeper tells what it told, and its count is what it was
-abbrev pub KeepsNothing : Told → Told → Type 0
+abbrev pub KeepsNothing : WorldTold → WorldTold → Type 0
 KeepsNothing p q = (q.kept ≡ p.kept) × (q.keep_faults ≡ p.keep_faults)
 
 -- the count of source, sink or files rose
-abbrev pub HasFault : Told → Told → Type 0
+abbrev pub HasFault : WorldTold → WorldTold → Type 0
 HasFault p q =
     Rose p.read_faults q.read_faults ⊎ (Rose p.write_faults q.write_faults ⊎ Rose p.file_faults q.file_faults)

@@ -1,7 +1,7 @@
 ghost use Rattle.std.specs.Prelude.{◌≡◌};
 ghost use Rattle.std.specs.Option.{option_copied};
 ghost use Rattle.dsv_outside.specs.Causes.{Rose};
-ghost use Rattle.davsvn_run.specs.Asking.{right_everywhere, right_in, right_line, is_expected, judged};
+ghost use Rattle.davsvn_run.specs.Asking.{right_everywhere, right_by, right_line, is_expected, judged};
 ghost use Rattle.davsvn_run.specs.Runs.{AskSays, TellSays};
 ghost use Rattle.davsvn_run.specs.Words.{question_in};
 ghost use Rattle.davsvn_run.specs.Worlds.{IsUnread, IsUnreported, KeepsNothing};
@@ -37,15 +37,15 @@ pub fn access_of<S: Source, K: Sink, E: Sink, C: Clock, F: Files, P: Keeper>(
         Ok(policy) => policy,
         Err(NoMemory) => return (End::NoMemory, world),
     };
-    let right = right_in(&policy, question.user, path, question.recursive);
+    let right = right_by(&policy, question.user, path, question.recursive);
     let end = tell(right, question.expected, &mut world.sink);
     (end, world)
 }
 
 /// The user's right at the path, or the one that is held at every path under it, too.
-fn right_in(policy: &Policy, user: Option<&[u8]>, path: &Path, recursive: bool) -> Right
+fn right_by(policy: &Policy, user: Option<&[u8]>, path: &Path, recursive: bool) -> Right
     ensures { result ≡
-        right_in policy.now.rules policy.now.name (option_copied user.entry) path.now recursive }
+        right_by policy.now.rules policy.now.name (option_copied user.entry) path.now recursive }
 {
     if recursive {
         right_everywhere(policy, user, path)

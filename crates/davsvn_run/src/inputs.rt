@@ -1,7 +1,7 @@
 ghost use Rattle.std.specs.Prelude.{◌≡◌};
 ghost use Rattle.dsv_outside.specs.Causes.{Rose};
 ghost use Rattle.davsvn_run.specs.Opening.{OpeningSays};
-ghost use Rattle.davsvn_run.specs.Words.{names_in};
+ghost use Rattle.davsvn_run.specs.Words.{file_names_in};
 
 use crate::command::FileNames;
 use crate::end::End;
@@ -29,7 +29,7 @@ pub fn open_inputs<F: Files>(
     names: FileNames<'_>,
     files: &mut F,
 ) -> Result<Inputs, End>
-    ensures says { OpeningSays (F.contents files.old) (names_in names.entry)
+    ensures says { OpeningSays (F.contents files.old) (file_names_in names.entry)
         (Rose (F.faults files.old) (F.faults files.new)) result }
     ensures same { F.contents files.new ≡ F.contents files.old }
 {

@@ -3,7 +3,7 @@ ghost use Rattle.rev_nodes.specs.Forests.{repository_of};
 ghost use Rattle.dav_machine.specs.Hubs.{new_hub};
 ghost use Rattle.davsvn_run.specs.Runs.{PipeSays};
 ghost use Rattle.davsvn_run.specs.Serving.{end_of_serving, ServingSays};
-ghost use Rattle.davsvn_run.specs.Words.{names_in};
+ghost use Rattle.davsvn_run.specs.Words.{file_names_in};
 ghost use Rattle.davsvn_run.specs.Worlds.{IsUnreported, KeepsNothing};
 
 use crate::command::FileNames;
@@ -25,7 +25,7 @@ pub fn pipe<S: Source, K: Sink, E: Sink, C: Clock, F: Files, P: Keeper>(
     names: FileNames<'_>,
     mut world: World<S, K, E, C, F, P>,
 ) -> (End, World<S, K, E, C, F, P>)
-    ensures says { PipeSays (names_in names.entry) world result.1 result.0 }
+    ensures says { PipeSays (file_names_in names.entry) world result.1 result.0 }
     ensures contents { result.1.told.contents ≡ world.told.contents }
     ensures kept { KeepsNothing world.told result.1.told }
     ensures unreported { IsUnreported world result.1 }

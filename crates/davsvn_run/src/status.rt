@@ -1,6 +1,6 @@
 ghost use Rattle.std.specs.Prelude.{◌≡◌, IfOk, []};
 ghost use Rattle.dsv_outside.specs.Causes.{Rose};
-ghost use Rattle.davsvn_run.specs.Statuses.{number_of, line_of, TookLine};
+ghost use Rattle.davsvn_run.specs.Statuses.{number_of, end_line, TookLine};
 
 use crate::end::End;
 use dsv_base::NoMemory;
@@ -35,22 +35,22 @@ pub fn status_of(end: &End) -> Status
 
 /// Puts the line of an end, in one call, unless memory runs out.
 pub fn put_line<E: Sink>(alloc: Global, end: &End, errors: &mut E)
-    ensures line { TookLine (E.taken errors.old) (E.taken errors.new) (line_of end.now)
+    ensures line { TookLine (E.taken errors.old) (E.taken errors.new) (end_line end.now)
         (Rose (E.faults errors.old) (E.faults errors.new)) }
-    ensures quiet { line_of end.now ≡ [] → errors.new ≡ errors.old }
+    ensures quiet { end_line end.now ≡ [] → errors.new ≡ errors.old }
 {
     if let End::Well | End::OtherRight = end {
         return;
     }
-    let line = match line_of(alloc, end) {
+    let line = match end_line(alloc, end) {
         Ok(line) => line,
         Err(NoMemory) => return,
     };
     errors.put(line.as_slice());
 }
 
-fn line_of(alloc: Global, end: &End) -> Result<Vec<u8>, NoMemory>
-    ensures { IfOk result (λ line. line.items ≡ line_of end.now) }
+fn end_line(alloc: Global, end: &End) -> Result<Vec<u8>, NoMemory>
+    ensures { IfOk result (λ line. line.items ≡ end_line end.now) }
 {
     let mut line = Vec::new(alloc);
     match end {

@@ -4,7 +4,7 @@ ghost use Rattle.dsv_base.specs.Names.{is_user_name, is_repository_name};
 ghost use Rattle.davsvn_run.specs.declared.verb.Verb.TheVariants as verbs;
 ghost use Rattle.davsvn_run.specs.Commands.{command, pipe_command, accessof_command, file_names_of, question_of, needed, optional, that, is_file_name, right_named};
 ghost use Rattle.davsvn_run.specs.Options.{read_options};
-ghost use Rattle.davsvn_run.specs.Words.{ReadsCommand, command_in, names_in, question_in, script_of};
+ghost use Rattle.davsvn_run.specs.Words.{ReadsCommand, command_in, file_names_in, question_in, script_of};
 
 use crate::command::{Command, FileNames, Question};
 use crate::options::{has_double, value_of, words_after};
@@ -82,7 +82,7 @@ fn accessof_command(alloc: Global, words: &[Bytes]) -> Result<Option<Command<'_>
 
 /// The files that the options of `pipe` name.
 fn file_names_of(words: &[Bytes]) -> Option<FileNames<'_>>
-    ensures { option_map names_in result ≡ file_names_of (read_options verbs.Pipe words.now).0 }
+    ensures { option_map file_names_in result ≡ file_names_of (read_options verbs.Pipe words.now).0 }
 {
     let script = file_name(value_of(Verb::Pipe, words, b"--script"))?;
     let rules = file_name(value_of(Verb::Pipe, words, b"--rules"))?;
