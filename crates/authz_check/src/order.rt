@@ -44,7 +44,8 @@ fn sort_places(rules: &[Rule], places: &mut [usize])
 {
     places.sort_unstable_by(
         |a: &usize, b: &usize| -> Ordering
-            ensures { result ≡ slice_cmp nat_cmp (rule_path rules.entry.now a.now) (rule_path rules.entry.now b.now) }
+            ensures { result
+                ≡ slice_cmp nat_cmp (rule_path rules.entry.now a.now) (rule_path rules.entry.now b.now) }
         { rule_path(rules, *a).cmp(rule_path(rules, *b)) },
     );
 }
@@ -70,7 +71,9 @@ pub fn places_at<'a>(rules: &[Rule], places: &'a [usize], path: &[u8]) -> &'a [u
 /// The places of the rules of the sections below this path.
 pub fn places_below<'a>(rules: &[Rule], places: &'a [usize], path: &Path) -> &'a [usize]
     requires { IsRising rules.now places.now }
-    ensures { (i : ℕ) → Contains places.now i → is_under (rule_path rules.now i) path.now ≡ true → bytes_eq (rule_path rules.now i) path.now ≡ false → Contains result.now i }
+    ensures { (i : ℕ) → Contains places.now i
+        → is_under (rule_path rules.now i) path.now ≡ true → bytes_eq (rule_path rules.now i) path.now ≡ false
+        → Contains result.now i }
 {
     let text = path.text();
     if text == b"/".as_slice() {
@@ -89,7 +92,10 @@ fn places_between<'a>(
     high: &[u8],
 ) -> &'a [usize]
     requires { IsRising rules.now places.now }
-    ensures { (i : ℕ) → Contains places.now i → is_lt (slice_cmp nat_cmp (rule_path rules.now i) (front.now ++ low.now)) ≡ false → is_lt (slice_cmp nat_cmp (rule_path rules.now i) (front.now ++ high.now)) ≡ true → Contains result.now i }
+    ensures { (i : ℕ) → Contains places.now i
+        → is_lt (slice_cmp nat_cmp (rule_path rules.now i) (front.now ++ low.now)) ≡ false
+        → is_lt (slice_cmp nat_cmp (rule_path rules.now i) (front.now ++ high.now)) ≡ true
+        → Contains result.now i }
 {
     let start = count_before(rules, places, front, low);
     let rest = &places[start..];
@@ -103,11 +109,13 @@ fn count_before(rules: &[Rule], places: &[usize], front: &[u8], tail: &[u8]) -> 
     ensures bound { result ≤ length places.now }
     ensures parted { IsPartitionPoint
         (λ place. is_lt (slice_cmp nat_cmp (rule_path rules.now place) (front.now ++ tail.now)) ≡ true)
-        (λ place. is_lt (slice_cmp nat_cmp (rule_path rules.now place) (front.now ++ tail.now)) ≡ false) places.now result }
+        (λ place. is_lt (slice_cmp nat_cmp (rule_path rules.now place) (front.now ++ tail.now)) ≡ false)
+        places.now result }
 {
     places.partition_point(
         |place: &usize| -> bool
-            ensures { result ≡ is_lt (slice_cmp nat_cmp (rule_path rules.entry.now place.now) (front.entry.now ++ tail.entry.now)) }
+            ensures { result ≡ is_lt (slice_cmp nat_cmp (rule_path rules.entry.now place.now)
+                (front.entry.now ++ tail.entry.now)) }
         { is_before(rule_path(rules, *place), front, tail) },
     )
 }

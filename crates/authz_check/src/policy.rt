@@ -88,7 +88,8 @@ impl Policy {
     #[tactic(auto, unfolding(crate::specs::Everywhere::all_access))]
     pub fn all_access(&self, user: Option<&[u8]>, path: &Path, want: Right) -> bool
         ensures value { result ≡ all_access self.now.rules self.now.name (option_copied user.entry) path.now want }
-        ensures law { IsTrue result → HoldsUnder (at_least want) self.now.rules self.now.name (option_copied user.entry) path.now }
+        ensures law { IsTrue result
+            → HoldsUnder (at_least want) self.now.rules self.now.name (option_copied user.entry) path.now }
     {
         self.everywhere(user, path, Demand::AtLeast(want))
     }
@@ -98,15 +99,18 @@ impl Policy {
     #[tactic(auto, unfolding(crate::specs::Everywhere::closed))]
     pub fn closed(&self, user: Option<&[u8]>, path: &Path) -> bool
         ensures value { result ≡ closed self.now.rules self.now.name (option_copied user.entry) path.now }
-        ensures law { IsTrue result → HoldsUnder is_no self.now.rules self.now.name (option_copied user.entry) path.now }
+        ensures law { IsTrue result
+            → HoldsUnder is_no self.now.rules self.now.name (option_copied user.entry) path.now }
     {
         self.everywhere(user, path, Demand::Nothing)
     }
 
     /// Whether the right at the path, and that at each path of a section under it, is as asked.
     fn everywhere(&self, user: Option<&[u8]>, path: &Path, demand: Demand) -> bool
-        ensures value { result ≡ everywhere (meets demand) self.now.rules self.now.name (option_copied user.entry) path.now }
-        ensures law { IsTrue result → HoldsUnder (meets demand) self.now.rules self.now.name (option_copied user.entry) path.now }
+        ensures value { result
+            ≡ everywhere (meets demand) self.now.rules self.now.name (option_copied user.entry) path.now }
+        ensures law { IsTrue result
+            → HoldsUnder (meets demand) self.now.rules self.now.name (option_copied user.entry) path.now }
     {
         // Its text is a path's, and the law speaks of paths.
         let _text = path.text();
@@ -120,7 +124,9 @@ impl Policy {
     /// it is. Sections of one path stand together, so only the first of them is asked about.
     fn sections_meet(&self, user: Option<&[u8]>, path: &Path, demand: Demand) -> bool
         requires { tested (meets demand) self.now.rules self.now.name (option_copied user) path.now ≡ true }
-        ensures { result ≡ list_all (tested (meets demand) self.now.rules self.now.name (option_copied user.entry)) (section_paths self.now.rules self.now.name path.now) }
+        ensures { result
+            ≡ list_all (tested (meets demand) self.now.rules self.now.name (option_copied user.entry))
+            (section_paths self.now.rules self.now.name path.now) }
     {
         let mut last = path.text();
         'places: for place in self.places_below(path) {
@@ -156,14 +162,17 @@ impl Policy {
 
     /// The places of the rules of exactly this path.
     fn places_at(&self, path: &[u8]) -> &[usize]
-        ensures { HasEach (λ rule. (speaks_of self.now.name rule ≡ true) × (rule.path ≡ path.now)) self.now.rules result.now }
+        ensures { HasEach (λ rule. (speaks_of self.now.name rule ≡ true) × (rule.path ≡ path.now))
+            self.now.rules result.now }
     {
         places_at(self.rules.get(), self.order.as_slice(), path)
     }
 
     /// The places of the rules of sections below this path.
     fn places_below(&self, path: &Path) -> &[usize]
-        ensures { HasEach (λ rule. (speaks_of self.now.name rule ≡ true) × (is_under rule.path path.now ≡ true) × (bytes_eq rule.path path.now ≡ false)) self.now.rules result.now }
+        ensures { HasEach (λ rule. (speaks_of self.now.name rule ≡ true)
+            × (is_under rule.path path.now ≡ true) × (bytes_eq rule.path path.now ≡ false))
+            self.now.rules result.now }
     {
         places_below(self.rules.get(), self.order.as_slice(), path)
     }

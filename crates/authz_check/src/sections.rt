@@ -59,7 +59,9 @@ fn with_place(
     user: Option<&[u8]>,
     path: &[u8],
 ) -> Option<Right>
-    ensures { level result ≡ max (level best) (weight_at (option_copied user.entry) (option_copied repos.entry) path.now rules.now place) }
+    ensures { level result
+        ≡ max (level best)
+        (weight_at (option_copied user.entry) (option_copied repos.entry) path.now rules.now place) }
 {
     match rules.get(place) {
         Some(rule) => with_rule(best, rule, repos, user, path),
@@ -75,7 +77,8 @@ fn with_rule(
     user: Option<&[u8]>,
     path: &[u8],
 ) -> Option<Right>
-    ensures { level result ≡ max (level best) (weight (option_copied user.entry) (option_copied repos.entry) path.now rule.now) }
+    ensures { level result
+        ≡ max (level best) (weight (option_copied user.entry) (option_copied repos.entry) path.now rule.now) }
 {
     if !is_in_section(rule, repos, path) {
         return best;

@@ -56,7 +56,8 @@ fn line_gives(
     line: &[u8],
     after: Option<&[u8]>,
 ) -> Result<Option<JoinedLine>, NoMemory>
-    ensures { IfOk result (λ given. option_to_list given ≡ line_before begun number line.now (option_copied after.entry)) }
+    ensures { IfOk result (λ given. option_to_list given
+        ≡ line_before begun number line.now (option_copied after.entry)) }
 {
     if is_skipped(line) {
         return Ok(None);

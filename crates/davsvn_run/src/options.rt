@@ -47,7 +47,8 @@ fn stands_alone(verb: Verb, name: &[u8]) -> bool
 /// The option at the front, where one stands there.
 #[tactic(auto, using(crate::proofs::OptionWords::front_alone, crate::proofs::OptionWords::front_valued, crate::proofs::OptionWords::front_other, crate::proofs::OptionWords::front_last), unfolding(crate::specs::Options::read_options))]
 fn front_option(verb: Verb, words: &[Bytes]) -> Option<Front<'_>>
-    ensures { IsFront verb words.now (option_map (λ front. (front.name.now, front.value.now, front.rest.now)) result) }
+    ensures { IsFront verb words.now
+        (option_map (λ front. (front.name.now, front.value.now, front.rest.now)) result) }
 {
     let [word, rest @ ..] = words else {
         return None;

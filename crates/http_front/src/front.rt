@@ -53,7 +53,8 @@ impl Model for Front {
 
     ghost Value = { FrontState };
 
-    ghost view = { λ f. record { number = f.number; at = f.at; rest = drop f.start f.bytes.items; phase = f.phase } };
+    ghost view = { λ f.
+        record { number = f.number; at = f.at; rest = drop f.start f.bytes.items; phase = f.phase } };
 
     ghost invariant = { λ f. FrontHolds f.number f.at f.bytes.items f.start f.phase f.progress };
 }
