@@ -34,6 +34,3 @@ pub use right::Right;
 pub use rule::Rule;
 pub use rules::Rules;
 pub use rules_fault::RulesFault;
-
-#[cfg(test)]
-mod tests;

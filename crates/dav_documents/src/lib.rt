@@ -3,8 +3,6 @@
 #![tactic(auto)]
 
 mod namespace;
-#[cfg(test)]
-mod tests;
 mod writer;
 
 pub use namespace::Namespace;

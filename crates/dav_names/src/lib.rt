@@ -9,8 +9,6 @@ mod read;
 mod resource;
 mod special;
 mod target_fault;
-#[cfg(test)]
-mod tests;
 mod txn_names;
 mod write;
 

@@ -11,8 +11,6 @@ mod no_memory;
 mod refusal;
 mod refusals;
 mod tables;
-#[cfg(test)]
-mod tests;
 mod writing;
 
 pub use allow_kind::AllowKind;

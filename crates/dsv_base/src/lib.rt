@@ -25,8 +25,6 @@ mod prop_edit;
 mod prop_name;
 mod reply;
 mod rev;
-#[cfg(test)]
-mod tests;
 mod text;
 mod text_files;
 mod txn_name;

@@ -27,8 +27,6 @@ mod sure_files;
 mod sure_keeper;
 mod sure_sink;
 mod sure_source;
-#[cfg(test)]
-mod tests;
 
 pub use clock::Clock;
 pub use file_got::FileGot;

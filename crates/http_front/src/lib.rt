@@ -44,6 +44,3 @@ pub use request::Request;
 pub use users::Users;
 pub use users_fault::UsersFault;
 pub use users_file::read_users;
-
-#[cfg(test)]
-mod tests;

@@ -1,9 +1,9 @@
 use crate::run_rows::check_run;
 use crate::run_tables::check_runs;
+use crate::tables::check_table;
 use crate::talks::check_talk;
 use anyhow::{Context, Result, bail};
 use row_files::{Block, Book, Report, Row, blocks_of, expand};
-use row_tables::check_table;
 use std::alloc::Global;
 
 /// Checks the rows of each file of the book whose name begins with `rows`, in turn.

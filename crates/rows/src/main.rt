@@ -6,6 +6,7 @@ mod checking;
 mod cut;
 mod run_rows;
 mod run_tables;
+mod tables;
 mod talks;
 
 use anyhow::{Context, Result};

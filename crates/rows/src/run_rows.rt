@@ -1,9 +1,10 @@
 use crate::cut::{CutSource, Cutting};
 use anyhow::{Result, bail};
 use davsvn_run::{Status, World, run};
-use dsv_base::{Bytes, Moment, Rev};
+use dsv_base::{Bytes, Rev};
 use dsv_outside::{MemClock, MemFiles, MemKeeper, MemSink, MemSource};
 use row_files::{Book, Row, difference, expand};
+use row_texts::moments_in;
 use std::alloc::Global;
 
 type MemWorld = World<CutSource, MemSink, MemSink, MemClock, MemFiles, MemKeeper>;
@@ -95,14 +96,7 @@ fn sink_of(alloc: Global, row: &Row, fails: &str) -> Result<MemSink> {
 
 /// A clock of the moments that the row tells.
 pub fn clock_of(alloc: Global, row: &Row) -> Result<MemClock> {
-    let mut moments = Vec::new(alloc);
-    for micros in row.numbers(alloc, "clock")? {
-        match Moment::of(micros) {
-            Some(moment) => moments.push(moment)?,
-            None => bail!("no moment: {micros}"),
-        }
-    }
-    Ok(MemClock::new(moments))
+    Ok(MemClock::new(moments_in(alloc, row.value("clock"))?))
 }
 
 /// A keeper that has kept nothing.

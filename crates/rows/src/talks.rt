@@ -8,7 +8,7 @@ use dsv_base::Bytes;
 use dsv_outside::{MemClock, MemKeeper, MemSink, MemSource};
 use http_front::Users;
 use row_files::{Book, Line, Row, difference, expand, numbers_in};
-use row_tables::{rules_of, trees_of, users_of};
+use row_inputs::{rules_of, trees_of, users_of};
 use std::alloc::Global;
 
 /// One connection of a conversation.

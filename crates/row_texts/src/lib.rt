@@ -1,0 +1,16 @@
+//! Tables of rows on texts, paths, targets, documents and replies, and on the objects in memory: for each
+//! table what is answered to a row.
+#![tactic(auto)]
+
+mod documents;
+mod outside;
+mod paths;
+mod refusals;
+mod replies;
+mod streams;
+mod tables;
+mod targets;
+mod texts;
+
+pub use outside::moments_in;
+pub use tables::answer;
