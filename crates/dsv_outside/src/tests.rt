@@ -8,7 +8,7 @@ fn streams(rt: HostRuntime) -> Result<(), Fail> {
     let mut piece = [0u8; 4];
     let mut source = MemSource::new(Bytes::of(alloc, b"ab")?, Vec::new(alloc));
     assert_eq!(rt; source.read(&mut piece), Got::Bytes(2));
-    let mut sink = MemSink::new(Bytes::of(alloc, b"a")?, Vec::new(alloc));
+    let mut sink = MemSink::new(Vec::from_slice(alloc, b"a")?, Vec::new(alloc));
     assert_eq!(rt; sink.put(b"bc"), Put::Done);
     assert_eq!(rt; sink.taken(), b"abc".as_slice());
     Ok(())

@@ -45,7 +45,7 @@ fn document(given: &Given<'_>) -> Result<Vec<u8>> {
     'pieces: for place in 1..given.columns.len() {
         put_piece(given, &mut writer, given.column(place)?)?;
     }
-    Ok(writer.finish()?.into_vec())
+    Ok(writer.finish()?.into_vec()?)
 }
 
 /// Writes one piece: `start NAME`, `bind PREFIX NAMESPACE`, `attribute NAME VALUE`, `text TEXT`, `end NAME`,

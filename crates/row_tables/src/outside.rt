@@ -54,7 +54,7 @@ fn source(given: &Given<'_>) -> Result<Vec<u8>> {
 
 /// The bytes that were taken, the calls that fail, and what is put.
 fn sink(given: &Given<'_>) -> Result<Vec<u8>> {
-    let taken = Bytes::from_vec(given.bytes(0)?);
+    let taken = given.bytes(0)?;
     let failing = numbers_in(given.alloc, given.column(1)?)?;
     let mut sink = MemSink::new(taken, failing);
     let mut out = Vec::new(given.alloc);

@@ -30,7 +30,7 @@ fn refusal(given: &Given<'_>) -> Result<Vec<u8>> {
     let refusal = refusal_of(given, given.column(0)?)?;
     let to = given.column(1)?;
     let bytes = refusal_bytes(given.alloc, &refusal, has(to, "head"), has(to, "last"))?;
-    Ok(bytes.into_vec())
+    Ok(bytes.into_vec()?)
 }
 
 fn want_of_memory(given: &Given<'_>) -> Result<Vec<u8>> {
@@ -206,5 +206,5 @@ fn reply(given: &Given<'_>) -> Result<Vec<u8>> {
     };
     let to = given.column(3)?;
     let bytes = reply_bytes(given.alloc, &reply, has(to, "head"), has(to, "last"))?;
-    Ok(bytes.into_vec())
+    Ok(bytes.into_vec()?)
 }

@@ -18,7 +18,7 @@ fn read_back(given: &Given<'_>) -> Result<Vec<u8>> {
 }
 
 fn root(given: &Given<'_>) -> Result<Vec<u8>> {
-    Ok(root_of(given.alloc, given.bytes(0)?.as_slice())?.into_vec())
+    Ok(root_of(given.alloc, given.bytes(0)?.as_slice())?.into_vec()?)
 }
 
 const ROOT: &[u8] = b"/svn/demo";
@@ -63,7 +63,7 @@ fn written_target(given: &Given<'_>) -> Result<Vec<u8>> {
     if back.as_slice() != words_of(given, &resource)?.as_slice() {
         return joined(given, &[written.get(), b", read back as ", back.as_slice()]);
     }
-    Ok(written.into_vec())
+    Ok(written.into_vec()?)
 }
 
 fn resource_of(given: &Given<'_>, words: &str) -> Result<Resource> {

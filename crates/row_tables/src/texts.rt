@@ -45,7 +45,7 @@ fn number_answer(table: &str, given: &Given<'_>) -> Result<Vec<u8>> {
 }
 
 fn text_in_xml(given: &Given<'_>) -> Result<Vec<u8>> {
-    Ok(xml_text(given.alloc, given.bytes(0)?.as_slice())?.into_vec())
+    Ok(xml_text(given.alloc, given.bytes(0)?.as_slice())?.into_vec()?)
 }
 
 fn text_that_xml_can_hold(given: &Given<'_>) -> Result<Vec<u8>> {
@@ -53,7 +53,7 @@ fn text_that_xml_can_hold(given: &Given<'_>) -> Result<Vec<u8>> {
 }
 
 fn path_in_a_url(given: &Given<'_>) -> Result<Vec<u8>> {
-    Ok(url_text(given.alloc, &path_at(given, 0)?)?.into_vec())
+    Ok(url_text(given.alloc, &path_at(given, 0)?)?.into_vec()?)
 }
 
 fn path_under_a_path(given: &Given<'_>) -> Result<Vec<u8>> {
