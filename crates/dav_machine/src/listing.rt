@@ -104,7 +104,7 @@ fn put_item(
         (out.new ≡ with_elements
         (link_item (target_text root.now child.now ++ slash_of kind) (name.now ++ slash_of kind)) out.old) }
 {
-    let mut href = write_target(alloc, root, child)?.into_vec();
+    let mut href = write_target(alloc, root, child)?.into_vec()?;
     href.extend_from_slice(slash_of(kind))?;
     let mut text = Vec::from_slice(alloc, name)?;
     text.extend_from_slice(slash_of(kind))?;

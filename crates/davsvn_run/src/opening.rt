@@ -37,7 +37,7 @@ pub fn open_script<F: Files>(alloc: Global, files: &mut F, name: &[u8]) -> Resul
     ensures cause { HasCause (F.faults files.old) (F.faults files.new) (is_failed_read result) }
 {
     let text = read_text(files, name)?;
-    match read_script(alloc, text.get()) {
+    match read_script(alloc, &text) {
         Ok(trees) => Ok(trees),
         Err(ScriptFault::BadScript { line }) => Err(Unread::BadLine(line)),
         Err(ScriptFault::NoMemory) => Err(Unread::NoMemory),

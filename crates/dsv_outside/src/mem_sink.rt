@@ -7,7 +7,6 @@ use crate::calls::Calls;
 use crate::put::Put;
 use crate::sink::Sink;
 use crate::sure_sink::SureSink;
-use dsv_base::Bytes;
 use std::marker::Model;
 
 /// A sink in memory, some of whose calls fail. Contracts see the bytes that it has taken, and the
@@ -28,8 +27,8 @@ impl Model for MemSink {
 
 impl MemSink {
     /// A sink that has taken these bytes, whose calls with these numbers fail, counted from 0.
-    pub fn new(taken: Bytes, failing: Vec<u64>) -> MemSink
-        ensures { result ≡ record { taken = taken; calls = no_calls failing.items } }
+    pub fn new(taken: Vec<u8>, failing: Vec<u64>) -> MemSink
+        ensures { result ≡ record { taken = taken.items; calls = no_calls failing.items } }
     {
         MemSink {
             sink: SureSink::new(taken),

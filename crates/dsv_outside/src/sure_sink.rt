@@ -4,7 +4,6 @@ ghost use Rattle.dsv_outside.specs.Sinks.{PutGives, is_failed_put};
 
 use crate::put::Put;
 use crate::sink::Sink;
-use dsv_base::Bytes;
 use std::marker::Model;
 
 /// A sink in memory that never fails. Contracts see the bytes that it has taken.
@@ -23,12 +22,10 @@ impl Model for SureSink {
 
 impl SureSink {
     /// A sink that has taken these bytes.
-    pub fn new(taken: Bytes) -> SureSink
-        ensures { result ≡ taken }
+    pub fn new(taken: Vec<u8>) -> SureSink
+        ensures { result ≡ taken.items }
     {
-        SureSink {
-            taken: taken.into_vec(),
-        }
+        SureSink { taken }
     }
 
     /// The bytes taken so far.

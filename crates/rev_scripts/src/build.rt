@@ -1,5 +1,5 @@
 ghost use Rattle.std.specs.Prelude.{◌≡◌, ◌+◌, ◌<◌, ◌≤◌, [], ⊤, MatchBool, length, slice_index_or, IfOk, OnOk};
-ghost use Rattle.dsv_base.specs.Gives.{GivesBy};
+ghost use Rattle.dsv_base.specs.Gives.{Gives, GivesBy};
 ghost use Rattle.rev_nodes.specs.Pushes.{pushed};
 ghost use Rattle.rev_nodes.specs.Forests.{repository_of};
 ghost use Rattle.rev_trees.specs.Readies.{revisions_of, IsUnchanged};
@@ -19,52 +19,51 @@ use std::alloc::Global;
 ///
 /// The script is davsvn's own text form of a repository (docs/FORMATS.md).
 /// [`ScriptFault::BadScript`] names the line where the first item begins, from the top, that is not
-/// in the grammar or doesn't fit.
+/// in the grammar or doesn't fit. Its texts, names and values are held together with the script.
 #[tactic(auto, unfolding(crate::specs::Scripts::repository_from))]
-pub fn read_script(alloc: Global, bytes: &[u8]) -> Result<Trees, ScriptFault>
+pub fn read_script(alloc: Global, bytes: &Bytes) -> Result<Trees, ScriptFault>
     requires { length bytes.now ≤ 268435456 }
     ensures { GivesBy repository_of wants_memory result (repository_from bytes.now) }
 {
     let (name, uuid, rest) = heading_from(bytes)?;
-    let (zeroth, line, rest) = zeroth_from(alloc, rest)?;
-    let trees = Trees::new(alloc, name, uuid, zeroth)?;
+    let (zeroth, line, rest) = zeroth_from(alloc, &rest)?;
+    let trees = Trees::new(alloc, name.get(), uuid.get(), zeroth)?;
     read_others(alloc, trees, line, rest)
 }
 
 /// The commit of revision 0, which stands after the head of a script, and the line and the text
 /// after it.
-fn zeroth_from(alloc: Global, text: &[u8]) -> Result<(Commit, u32, &[u8]), ScriptFault>
+fn zeroth_from(alloc: Global, text: &Bytes) -> Result<(Commit, u32, Bytes), ScriptFault>
     requires { length text.now ≤ 268435456 }
-    ensures value { GivesBy (λ x. (x.0, x.1, x.2.now)) wants_memory result (zeroth_from text.now) }
+    ensures value { Gives wants_memory result (zeroth_from text.now) }
     ensures none { IfOk result (λ x. x.0.changes ≡ []) }
     ensures sound { IfOk result (λ x. IsSoundCommit x.0) }
-    ensures room { IfOk result (λ x. x.1 + length x.2.now ≤ 4 + length text.now) }
-    ensures shorter { IfOk result (λ x. length x.2.now ≤ length text.now) }
+    ensures room { IfOk result (λ x. x.1 + length x.2 ≤ 4 + length text.now) }
+    ensures shorter { IfOk result (λ x. length x.2 ≤ length text.now) }
 {
     let (moment, author, rest) = match revision_head(zeroth(), text) {
         Ok(head) => head,
         Err(fault) => return Err(fault.at(4)),
     };
-    let line = line_after(4, text, rest);
+    let line = line_after(4, text, &rest);
     let mut told = Told::new(alloc);
-    let (line, rest) = read_items(alloc, zeroth(), &mut told, line, rest)?;
-    let author = Bytes::of(alloc, author)?;
+    let (line, rest) = read_items(zeroth(), &mut told, line, rest)?;
     let (commit, _) = told.into_commit(author, moment);
     Ok((commit, line, rest))
 }
 
 /// The trees with all revisions of the text, which begins at this line.
-fn read_others(alloc: Global, trees: Trees, line: u32, text: &[u8]) -> Result<Trees, ScriptFault>
-    requires room { line + length text.now ≤ 4294967295 }
-    requires few { length trees.revisions + length text.now ≤ 2000000000 }
+fn read_others(alloc: Global, trees: Trees, line: u32, text: Bytes) -> Result<Trees, ScriptFault>
+    requires room { line + length text ≤ 4294967295 }
+    requires few { length trees.revisions + length text ≤ 2000000000 }
     ensures { GivesBy repository_of wants_memory result
-        (with_revisions trees (revisions_from (length text.now) (revisions_of trees) line text.now)) }
+        (with_revisions trees (revisions_from (length text) (revisions_of trees) line text)) }
 {
     let mut trees = trees;
     let mut begins = line;
     let mut rest = text;
-    'revisions: while !rest.is_empty() {
-        let (next, after) = push_revision(alloc, &mut trees, begins, rest)?;
+    'revisions: while !rest.get().is_empty() {
+        let (next, after) = push_revision(alloc, &mut trees, begins, &rest)?;
         begins = next;
         rest = after;
     }
@@ -73,31 +72,30 @@ fn read_others(alloc: Global, trees: Trees, line: u32, text: &[u8]) -> Result<Tr
 
 /// Pushes the first revision of the text, which begins at this line: the line and the text after
 /// it. A change that doesn't fit stands before the fault of a later item.
-fn push_revision<'a>(
+fn push_revision(
     alloc: Global,
     trees: &mut Trees,
     line: u32,
-    text: &'a [u8],
-) -> Result<(u32, &'a [u8]), ScriptFault>
+    text: &Bytes,
+) -> Result<(u32, Bytes), ScriptFault>
     requires room { line + length text.now ≤ 4294967295 }
     requires few { length trees.old.revisions ≤ 2000000000 }
-    ensures value { GivesBy (λ x. (revisions_of trees.new, x.0, x.1.now)) wants_memory result
+    ensures value { GivesBy (λ x. (revisions_of trees.new, x.0, x.1)) wants_memory result
         (next_from (revisions_of trees.old) line text.now) }
     ensures name { OnOk result (trees.new.name ≡ trees.old.name) }
     ensures uuid { OnOk result (trees.new.uuid ≡ trees.old.uuid) }
     ensures more { OnOk result (length trees.new.revisions ≡ length trees.old.revisions + 1) }
-    ensures room { IfOk result (λ x. x.0 + length x.1.now ≤ line + length text.now) }
-    ensures shorter { IfOk result (λ x. length x.1.now < length text.now) }
+    ensures room { IfOk result (λ x. x.0 + length x.1 ≤ line + length text.now) }
+    ensures shorter { IfOk result (λ x. length x.1 < length text.now) }
 {
     let number = next_number(trees);
     let (moment, author, rest) = match revision_head(number, text) {
         Ok(head) => head,
         Err(fault) => return Err(fault.at(line)),
     };
-    let begins = line_after(line, text, rest);
+    let begins = line_after(line, text, &rest);
     let mut told = Told::new(alloc);
-    let read = read_items(alloc, number, &mut told, begins, rest);
-    let author = Bytes::of(alloc, author)?;
+    let read = read_items(number, &mut told, begins, rest);
     let (next, after) = match read {
         Ok(after) => after,
         Err(fault) => return Err(first_fault(trees, told, author, moment, fault)),

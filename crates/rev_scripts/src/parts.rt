@@ -1,11 +1,11 @@
 ghost use Rattle.std.specs.Prelude.{◌≡◌, ◌<◌, ◌≤◌, length, IfOk};
-ghost use Rattle.dsv_base.specs.Gives.{Gives, GivesBy};
+ghost use Rattle.dsv_base.specs.Gives.{Gives};
 ghost use Rattle.rev_scripts.specs.Steps.{is_no_memory};
 ghost use Rattle.rev_scripts.specs.Items.{two_lengths, three_lengths, copy_numbers, one_part, two_parts, three_parts};
 
-use crate::cursor::{after_front, bytes_from, number_from, word_from};
+use crate::cursor::{behind_front, bytes_from, number_from, word_from};
 use crate::item_fault::ItemFault;
-use dsv_base::Rev;
+use dsv_base::{Bytes, Rev};
 
 /// The lengths of an item with two parts, each at most `most`.
 pub fn two_lengths(most: u64, numbers: &[u8]) -> Result<(u64, u64), ItemFault>
@@ -45,23 +45,22 @@ pub fn copy_numbers(most: u64, number: Rev, numbers: &[u8]) -> Result<(u64, u64,
 }
 
 /// The last part of an item, of so many bytes, and what stands after the line feed that ends it.
-pub fn one_part(size: u64, text: &[u8]) -> Result<(&[u8], &[u8]), ItemFault>
-    ensures value { GivesBy (λ x. (x.0.now, x.1.now)) is_no_memory result (one_part size text.now) }
-    ensures shorter { IfOk result (λ x. length x.1.now ≤ length text.now) }
+pub fn one_part(size: u64, text: &Bytes) -> Result<(Bytes, Bytes), ItemFault>
+    ensures value { Gives is_no_memory result (one_part size text.now) }
+    ensures shorter { IfOk result (λ x. length x.1 ≤ length text.now) }
 {
     let (one, rest) = bytes_from(size, text)?;
-    let rest = after_front(b"\n", rest)?;
+    let rest = behind_front(b"\n", &rest)?;
     Ok((one, rest))
 }
 
 /// The last two parts.
-pub fn two_parts(first: u64, second: u64, text: &[u8]) -> Result<(&[u8], &[u8], &[u8]), ItemFault>
-    ensures value { GivesBy (λ x. (x.0.now, x.1.now, x.2.now)) is_no_memory result
-        (two_parts first second text.now) }
-    ensures shorter { IfOk result (λ x. length x.2.now ≤ length text.now) }
+pub fn two_parts(first: u64, second: u64, text: &Bytes) -> Result<(Bytes, Bytes, Bytes), ItemFault>
+    ensures value { Gives is_no_memory result (two_parts first second text.now) }
+    ensures shorter { IfOk result (λ x. length x.2 ≤ length text.now) }
 {
     let (one, rest) = bytes_from(first, text)?;
-    let (two, rest) = one_part(second, rest)?;
+    let (two, rest) = one_part(second, &rest)?;
     Ok((one, two, rest))
 }
 
@@ -70,13 +69,12 @@ pub fn three_parts(
     first: u64,
     second: u64,
     third: u64,
-    text: &[u8],
-) -> Result<(&[u8], &[u8], &[u8], &[u8]), ItemFault>
-    ensures value { GivesBy (λ x. (x.0.now, x.1.now, x.2.now, x.3.now)) is_no_memory result
-        (three_parts first second third text.now) }
-    ensures shorter { IfOk result (λ x. length x.3.now ≤ length text.now) }
+    text: &Bytes,
+) -> Result<(Bytes, Bytes, Bytes, Bytes), ItemFault>
+    ensures value { Gives is_no_memory result (three_parts first second third text.now) }
+    ensures shorter { IfOk result (λ x. length x.3 ≤ length text.now) }
 {
     let (one, rest) = bytes_from(first, text)?;
-    let (two, three, rest) = two_parts(second, third, rest)?;
+    let (two, three, rest) = two_parts(second, third, &rest)?;
     Ok((one, two, three, rest))
 }

@@ -8,7 +8,7 @@ use crate::next::SPAN;
 use crate::place::Place;
 use crate::places::search;
 use crate::shared::Shared;
-use dsv_base::{Bytes, List, NoMemory, Rev, parent_text};
+use dsv_base::{List, NoMemory, Rev, parent_text};
 use rev_nodes::{Entry, NodeId};
 use std::alloc::Global;
 
@@ -25,7 +25,7 @@ pub fn entries_of(
     let mut lists = empty_lists(alloc, places.len())?;
     let mut index = 0usize;
     'places: while index < places.len() {
-        enter(alloc, rev, places, &mut lists, index)?;
+        enter(rev, places, &mut lists, index)?;
         index += 1;
     }
     Ok(List::of(lists))
@@ -43,7 +43,6 @@ fn empty_lists(alloc: Global, count: usize) -> Result<Vec<EntryList>, NoMemory>
 
 /// Adds the place of this index to the list of the directory that it stands in.
 fn enter(
-    alloc: Global,
     rev: Rev,
     places: &[Shared<Place>],
     lists: &mut Vec<EntryList>,
@@ -62,7 +61,7 @@ fn enter(
         return Ok(());
     };
     let entry = Entry {
-        name: Bytes::of(alloc, place.path.name())?,
+        name: place.path.name_bytes()?,
         id: NodeId::of(u64::from(rev.get()) * SPAN + index as u64),
     };
     lists[at].push(entry)

@@ -1,4 +1,5 @@
 use authz_file::{Rules, RulesFault, read_rules};
+use dsv_base::Bytes;
 use http_front::{Users, UsersFault, read_users};
 use rev_scripts::{ScriptFault, read_script};
 use rev_trees::Trees;
@@ -12,7 +13,7 @@ pub fn trees_of(alloc: Global, script: &[u8]) -> Result<Trees, ScriptFault> {
     if script.len() > MOST_FILE_BYTES {
         return Err(ScriptFault::NoMemory);
     }
-    read_script(alloc, script)
+    read_script(alloc, &Bytes::of(alloc, script)?)
 }
 
 /// The rules of a file. One that is too long is answered by want of memory.

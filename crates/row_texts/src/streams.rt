@@ -50,7 +50,7 @@ pub fn put_sink(given: &Given<'_>, out: &mut Answer) {
 
 fn sink_of(given: &Given<'_>) -> Option<MemSink> {
     let failing = numbers_in(given.alloc, given.text(1)).ok()?;
-    let taken = Bytes::of(given.alloc, given.bytes(0)).ok()?;
+    let taken = Vec::from_slice(given.alloc, given.bytes(0)).ok()?;
     Some(MemSink::new(taken, failing))
 }
 

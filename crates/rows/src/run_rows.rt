@@ -90,8 +90,7 @@ fn world_of(
 }
 
 fn sink_of(alloc: Global, row: &Row, fails: &str) -> Result<MemSink> {
-    let nothing = Bytes::from_vec(Vec::new(alloc));
-    Ok(MemSink::new(nothing, row.numbers(alloc, fails)?))
+    Ok(MemSink::new(Vec::new(alloc), row.numbers(alloc, fails)?))
 }
 
 /// A clock of the moments that the row tells.

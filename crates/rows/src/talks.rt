@@ -118,8 +118,7 @@ fn serve(
     let input = Bytes::of(alloc, connection.input.as_slice())?;
     let source = MemSource::new(input, connection.source_fails.clone()?);
     let mut source = CutSource { source, cutting };
-    let nothing = Bytes::from_vec(Vec::new(alloc));
-    let mut sink = MemSink::new(nothing, connection.sink_fails.clone()?);
+    let mut sink = MemSink::new(Vec::new(alloc), connection.sink_fails.clone()?);
     let end = serve_connection(alloc, solo, &mut source, &mut sink, clock, users);
     let part = format!(in alloc; "connection {}", connection.name)?;
     let wanted = connection.output.as_slice();

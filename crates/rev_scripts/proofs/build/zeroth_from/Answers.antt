@@ -1,4 +1,4 @@
-use Rattle.std.proofs.Common.{ℕ, List, sym, ap, subst, ◌∙◌}
+use Rattle.std.proofs.Common.{ℕ, List, refl, sym, ap, subst, ◌∙◌}
 use Rattle.std.proofs.lemmas.Result.{err_from_is_err_and}
 use Rattle.rev_nodes.specs.declared.commit.Commit.{Commit}
 use Rattle.rev_scripts.specs.Items.{Told, nothing_told}
@@ -13,13 +13,13 @@ returns-in-Err-clause-value c = rw c.at.ensures (head_fault zeroth_of 0 4 c.args
 pub returns-in_err-line-clause-value : goal.returns-in_err-line-clause-value
 returns-in_err-line-clause-value c =
     let p = err_from_is_err_and c.from_residual.result c.from_residual.ensures.1 in
-    let head : ℕ × List ℕ × List ℕ = (c.in-Ok.head.0, c.in-Ok.head.1.now, c.in-Ok.head.2.now) in
+    let head : ℕ × List ℕ × List ℕ = (c.in-Ok.head.0, c.in-Ok.head.1, c.in-Ok.head.2) in
     rw (p.1, p.2) (zeroth_fault c.args.text.now head c.in_err-line.field-0.0 (rw c.zeroth.ensures at c.in-Ok.ensures.value) (rw (c.zeroth-2.ensures, c.new-told.ensures, c.line_after-line.ensures.value) at c.in_err-line.ensures.after))
 
 pub returns-clause-value : goal.returns-clause-value
 returns-clause-value c =
-    let head : ℕ × List ℕ × List ℕ = (c.in-Ok.head.0, c.in-Ok.head.1.now, c.in-Ok.head.2.now) in
-    rw (c.into_commit-commit.ensures.commit, c.in_ok-author.ensures) (zeroth_whole c.args.text.now head c.read_items.new.told (c.in_ok-line.line, c.in_ok-line.rest.now) (rw c.zeroth.ensures at c.in-Ok.ensures.value) (rw (c.zeroth-2.ensures, c.new-told.ensures, c.line_after-line.ensures.value) at c.in_ok-line.ensures.told) (rw (c.zeroth-2.ensures, c.new-told.ensures, c.line_after-line.ensures.value) at c.in_ok-line.ensures.after))
+    let head : ℕ × List ℕ × List ℕ = (c.in-Ok.head.0, c.in-Ok.head.1, c.in-Ok.head.2) in
+    rw c.into_commit-commit.ensures.commit (zeroth_whole c.args.text.now head c.read_items.new.told (c.in_ok-line.line, c.in_ok-line.rest) (rw c.zeroth.ensures at c.in-Ok.ensures.value) (rw (c.zeroth-2.ensures, c.new-told.ensures, c.line_after-line.ensures.value) at c.in_ok-line.ensures.told) (rw (c.zeroth-2.ensures, c.new-told.ensures, c.line_after-line.ensures.value) at c.in_ok-line.ensures.after))
 
 pub returns-clause-none : goal.returns-clause-none
 returns-clause-none c =
@@ -29,7 +29,7 @@ returns-clause-none c =
 
 pub returns-clause-sound : goal.returns-clause-sound
 returns-clause-sound c =
-    let head : ℕ × List ℕ × List ℕ = (c.in-Ok.head.0, c.in-Ok.head.1.now, c.in-Ok.head.2.now) in
+    let head : ℕ × List ℕ × List ℕ = (c.in-Ok.head.0, c.in-Ok.head.1, c.in-Ok.head.2) in
     subst IsSoundCommit (sym c.into_commit-commit.ensures.commit)
-    (read_commit 0 4 c.args.text.now head _ _ c.read_items.new.told c.in_ok-author.author c.in-Ok.head.0 (rw c.zeroth.ensures at c.in-Ok.ensures.value) c.in_ok-author.ensures
+    (read_commit 0 4 c.args.text.now head _ _ c.read_items.new.told c.in-Ok.head.1 c.in-Ok.head.0 (rw c.zeroth.ensures at c.in-Ok.ensures.value) refl
     (rw (c.zeroth-2.ensures, c.new-told.ensures, c.line_after-line.ensures.value) at c.in_ok-line.ensures.told))
