@@ -6,3 +6,4 @@ pub mod Names
 pub mod Lines
 pub mod TextFiles
 pub mod Numbers
+pub mod Holding

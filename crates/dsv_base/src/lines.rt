@@ -1,5 +1,8 @@
-ghost use Rattle.std.specs.Prelude.{◌≡◌, ◌+◌, ◌<◌, ◌∷◌, ◌==◌, [], None, Some, false, length, MatchOption, IfSome, IfNone, All, take, slice_index};
+ghost use Rattle.std.specs.Prelude.{◌≡◌, ◌+◌, ◌<◌, ◌∷◌, ◌==◌, [], None, Some, false, length, MatchOption, IfOk, IfSome, IfNone, All, take, slice_index};
 ghost use Rattle.dsv_base.specs.Lines.{lines_of, cut_at, cut_line};
+
+use crate::bytes::Bytes;
+use crate::no_memory::NoMemory;
 
 /// Where the byte stands first.
 fn place_of(text: &[u8], byte: u8) -> Option<usize>
@@ -21,6 +24,17 @@ pub fn cut_at(text: &[u8], byte: u8) -> Option<(&[u8], &[u8])>
     match place_of(text, byte) {
         None => None,
         Some(at) => Some((&text[..at], &text[at + 1..])),
+    }
+}
+
+/// The same two parts, held together with the text. Its one error is want of memory.
+pub fn cut_bytes(text: &Bytes, byte: u8) -> Result<Option<(Bytes, Bytes)>, NoMemory>
+    ensures cut { IfOk result (λ cut. cut ≡ cut_at byte text.now) }
+    ensures shorter { IfOk result (λ cut. IfSome cut (λ x. length x.1 < length text.now)) }
+{
+    match place_of(text.get(), byte) {
+        None => Ok(None),
+        Some(at) => Ok(Some((text.part(0, at)?, text.after(at + 1)?))),
     }
 }
 

@@ -36,7 +36,7 @@ pub(crate) fn name_text(path: &[u8]) -> &[u8]
 }
 
 /// What stands before the last `/`, or nothing where there is none.
-fn before_last_slash(path: &[u8]) -> &[u8]
+pub(crate) fn before_last_slash(path: &[u8]) -> &[u8]
     ensures { result.now ≡ before_last_slash path.now }
 {
     let mut front = path;

@@ -1,10 +1,11 @@
-ghost use Rattle.std.specs.Prelude.{◌≡◌, false, IsTrue, IfOk, IfSome, IsErr, IsErrOf, Some, count_by};
+ghost use Rattle.std.specs.Prelude.{◌≡◌, false, IsTrue, IfOk, IfSome, IsErr, IsErrOf, Some, None, count_by};
 ghost use Rattle.std.specs.List.{list_all};
 ghost use Rattle.std.specs.Str.{bytes_eq};
 ghost use Rattle.dsv_base.specs.Paths.{is_path, is_component, is_component_byte, components, is_reserved, is_below_root, is_under, is_slash, root_text, parent_text, name_of, join_text, front_of};
 
+use crate::bytes::Bytes;
 use crate::no_memory::NoMemory;
-use crate::parent::{name_text, parent_text};
+use crate::parent::{before_last_slash, name_text, parent_text};
 use crate::path_fault::PathFault;
 use crate::text::{has_noncharacter_bytes, is_utf8_text};
 use std::alloc::Global;
@@ -16,7 +17,7 @@ use std::marker::Model;
 /// U+FFFE and U+FFFF, and isn't `.`, `..` or `!svn`. Contracts see a path as its text.
 #[derive(Debug, Drop)]
 pub struct Path {
-    text: Vec<u8>,
+    text: Bytes,
 }
 
 impl Model for Path {
@@ -25,9 +26,9 @@ impl Model for Path {
 
     ghost Value = { List ℕ };
 
-    ghost view = { λ p. p.text.items };
+    ghost view = { λ p. p.text };
 
-    ghost invariant = { λ p. IsTrue (is_path p.text.items) };
+    ghost invariant = { λ p. IsTrue (is_path p.text) };
 }
 
 impl Path {
@@ -36,7 +37,7 @@ impl Path {
     pub fn root(alloc: Global) -> Result<Path, NoMemory>
         ensures { IfOk result (λ p. p ≡ root_text) }
     {
-        let text = Vec::from_slice(alloc, b"/")?;
+        let text = Bytes::of(alloc, b"/")?;
         Ok(Path { text })
     }
 
@@ -49,10 +50,21 @@ impl Path {
         if !is_path_text(text) {
             return Err(PathFault::BadPath);
         }
-        match Vec::from_slice(alloc, text) {
+        match Bytes::of(alloc, text) {
             Ok(text) => Ok(Path { text }),
             Err(_) => Err(PathFault::NoMemory),
         }
+    }
+
+    /// The path that `text` is, which is kept and not copied; `None` where it is none.
+    pub fn from_bytes(text: Bytes) -> Option<Path>
+        ensures value { IfSome result (λ p. (p ≡ text) × IsTrue (is_path text)) }
+        ensures none { result ≡ None → is_path text ≡ false }
+    {
+        if !is_path_text(text.get()) {
+            return None;
+        }
+        Some(Path { text })
     }
 
     /// Its text.
@@ -60,14 +72,14 @@ impl Path {
         ensures text { result.now ≡ self.now }
         ensures path { IsTrue (is_path self.now) }
     {
-        self.text.as_slice()
+        self.text.get()
     }
 
-    /// A copy. Its one error is want of memory.
+    /// The same path, whose text is held together with this one's. Its one error is want of memory.
     pub fn copy(&self) -> Result<Path, NoMemory>
         ensures { IfOk result (λ p. p ≡ self.now) }
     {
-        let text = self.text.clone()?;
+        let text = self.text.copy()?;
         Ok(Path { text })
     }
 
@@ -77,10 +89,10 @@ impl Path {
         ensures joined { IfOk result (λ parent. IfSome parent (λ directory.
             join_text directory (name_of self.now) ≡ self.now)) }
     {
-        match parent_text(self.text.as_slice()) {
+        match parent_text(self.text.get()) {
             None => Ok(None),
             Some(parent) => {
-                let text = Vec::from_slice(*self.text.allocator(), parent)?;
+                let text = Bytes::of(self.text.allocator(), parent)?;
                 Ok(Some(Path { text }))
             }
         }
@@ -91,7 +103,17 @@ impl Path {
         ensures name { result.now ≡ name_of self.now }
         ensures component { bytes_eq self.now root_text ≡ false → IsTrue (is_component (name_of self.now)) }
     {
-        name_text(self.text.as_slice())
+        name_text(self.text.get())
+    }
+
+    /// Its last component, held together with its text; nothing for `/`. Its one error is want of
+    /// memory.
+    #[tactic(auto, unfolding(crate::specs::Paths::name_of))]
+    pub fn name_bytes(&self) -> Result<Bytes, NoMemory>
+        ensures { IfOk result (λ name. name ≡ name_of self.now) }
+    {
+        let front = before_last_slash(self.text.get());
+        self.text.after(front.len() + 1)
     }
 
     /// The path with `name` behind it, after a `/`, of which `/` has its own. [`PathFault::BadPath`]
@@ -104,10 +126,11 @@ impl Path {
         ensures parent { IsTrue (is_component name.now) → IfOk result (λ p. parent_text p ≡ Some self.now) }
         ensures name { IsTrue (is_component name.now) → IfOk result (λ p. name_of p ≡ name.now) }
     {
-        let text = joined_text(*self.text.allocator(), self.text.as_slice(), name)?;
+        let text = joined_text(self.text.allocator(), self.text.get(), name)?;
         if !is_path_text(text.as_slice()) {
             return Err(PathFault::BadPath);
         }
+        let text = Bytes::from_vec(text);
         Ok(Path { text })
     }
 
@@ -115,7 +138,7 @@ impl Path {
     pub fn is_under(&self, top: &Path) -> bool
         ensures { result ≡ is_under self.now top.now }
     {
-        is_under_text(self.text.as_slice(), top.text.as_slice())
+        is_under_text(self.text.get(), top.text.get())
     }
 }
 
