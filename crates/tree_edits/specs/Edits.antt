@@ -69,5 +69,5 @@ shown cells edits ns = option_map shown_node (held cells edits ns)
 
 -- the flat tree has at each path what the edits show there
 pub record AreShown (cells : List Cell) (edits : EditedTree) (tree : Tree) : Type 0 where
-  pub shown : (ns : List Name) → are_names ns ≡ true → at (path_at root_text ns) tree ≡ shown cells edits ns
+  pub shows : (ns : List Name) → are_names ns ≡ true → at (path_at root_text ns) tree ≡ shown cells edits ns
   pub formed : IsFormed tree
