@@ -9,7 +9,7 @@ use Rattle.std.proofs.lemmas.Bool.{and_parts, and_from, le-leb, leb-true, false_
 use Rattle.rev_nodes.specs.declared.entry.Entry.{Entry}
 use Rattle.rev_nodes.proofs.Forming.{tied}
 use Rattle.rev_nodes.proofs.Search.{find_here}
-use Rattle.node_table.specs.declared.cell.Cell.{Cell}
+use Rattle.rev_nodes.specs.declared.cell.Cell.{Cell}
 use Rattle.node_table.specs.Ways.{Name}
 use Rattle.node_table.specs.Tables.{pair, child, child_in, cell_at, reach, IsSound}
 use Rattle.node_table.specs.Limits.{fits, AllFit, HasLong}

@@ -4,11 +4,10 @@ ghost use Rattle.node_table.specs.Ways.{Name, names_in};
 ghost use Rattle.node_table.specs.Tables.{IsSound};
 ghost use Rattle.node_table.specs.Limits.{AllFit, HasLong};
 
-use crate::cell::Cell;
 use crate::names::first_name;
 use crate::places::below_root;
 use crate::reading::cell_of;
-use rev_nodes::NodeId;
+use rev_nodes::{Cell, NodeId};
 
 /// Whether all below a number has at most so many names, and so many bytes with a slash before each.
 pub fn fits_below(cells: &[Cell], id: NodeId, levels: u64, bytes: u64) -> bool

@@ -2,9 +2,8 @@ ghost use Rattle.std.specs.Prelude.{◌≡◌, ◌<◌, ℕ, Some, length};
 ghost use Rattle.dsv_base.specs.Paths.{components};
 ghost use Rattle.node_table.specs.Tables.{cell_at, child, child_in, reach, IsSound};
 
-use crate::cell::Cell;
 use crate::names::first_name;
-use rev_nodes::{Entry, NodeId};
+use rev_nodes::{Cell, Entry, NodeId};
 use std::cmp::Ordering;
 
 /// The cell of a number.

@@ -1,20 +1,17 @@
-ghost use Rattle.std.specs.Prelude.{◌≡◌, ◌<◌, ◌∷◌, ℕ, [], IfOk, OnErr, Some, length};
+ghost use Rattle.std.specs.Prelude.{◌≡◌, ◌<◌, ◌∷◌, ◌++◌, [], IfOk, OnOk, OnErr, Some, length};
 ghost use Rattle.dsv_base.specs.Paths.{root_text};
 ghost use Rattle.rev_nodes.specs.Trees.{new_dir};
 ghost use Rattle.node_table.specs.Shown.{IsShown};
 ghost use Rattle.node_table.specs.Ways.{names_in};
 ghost use Rattle.node_table.specs.Tables.{cell_at, reach};
-ghost use Rattle.node_table.specs.Rebuilt.{IsMade, IsLonger};
-ghost use Rattle.node_table.specs.Steps.{IsBase, IsSource, Changes, added};
+ghost use Rattle.node_table.specs.Rebuilt.{IsLonger};
+ghost use Rattle.node_table.specs.Steps.{IsBase};
 
-use crate::cell::Cell;
-use crate::changing::change;
 use crate::new_cells::new_cell;
 use crate::places::place_at;
 use crate::reading::cell_of;
-use crate::rebuilding::push;
 use dsv_base::{Bytes, NoMemory, Path, Rev};
-use rev_nodes::{Change, Entry, Kind, Node, NodeId, Unfit};
+use rev_nodes::{Cell, Entry, Kind, Node, NodeId};
 use std::alloc::Global;
 use std::marker::Model;
 
@@ -29,7 +26,7 @@ pub struct Table {
 
 impl Model for Table {
     ghost use Rattle.std.specs.Prelude.{List};
-    ghost use Rattle.node_table.specs.declared.cell.Cell.{Cell};
+    ghost use Rattle.rev_nodes.specs.declared.cell.Cell.{Cell};
     ghost use Rattle.node_table.specs.Tables.{IsSound};
 
     ghost Value = { List Cell };
@@ -89,37 +86,18 @@ impl Table {
     {
         place_at(self.cells.as_slice(), root, path)
     }
-
-    /// Does a change on the tree of a root, and gives the new root. A copy is taken from the tree of
-    /// `from`, or fits nowhere without one. Where the change doesn't fit, the table is as it was.
-    pub fn change(
-        &mut self,
-        alloc: Global,
-        root: NodeId,
-        from: Option<NodeId>,
-        told: &Change,
-        rev: Rev,
-    ) -> Result<NodeId, Unfit>
-        requires base { IsBase rev self.old root }
-        requires from { (id : ℕ) → from ≡ Some id → IsSource rev self.old id }
-        ensures made { IfOk result (λ made. IsMade rev self.old self.new made (added told.now)) }
-        ensures says { Changes rev told.now self.old self.new root from result }
-        ensures kept { OnErr result (self.new ≡ self.old) }
-    {
-        let count = count_of(self.cells.as_slice());
-        match change(alloc, &mut self.cells, root, from, told, rev) {
-            Ok(made) => Ok(made),
-            Err(why) => {
-                self.cells.truncate(count);
-                Err(why)
-            }
-        }
-    }
 }
 
-/// How many cells there are.
-fn count_of(cells: &[Cell]) -> usize
-    ensures { result ≡ length cells.now }
+/// Adds a cell to the table.
+fn push(cells: &mut Vec<Cell>, cell: Cell) -> Result<NodeId, NoMemory>
+    ensures number { IfOk result (λ id. id ≡ length cells.old.items) }
+    ensures cells { OnOk result (cells.new.items ≡ cells.old.items ++ cell ∷ []) }
+    ensures full { OnErr result (cells.new.items ≡ cells.old.items) }
+    ensures longer { IsLonger cells.old.items cells.new.items }
 {
-    cells.len()
+    let id = NodeId::of(cells.len() as u64);
+    match cells.push(cell) {
+        Ok(()) => Ok(id),
+        Err(_) => Err(NoMemory),
+    }
 }

@@ -1,6 +1,7 @@
 //! Nodes, changes and commits of a repository as plain values, with all that is said of trees as flat lists.
 #![tactic(auto)]
 
+mod cell;
 mod change;
 mod changed;
 mod commit;
@@ -13,6 +14,7 @@ mod node_id;
 mod property_name;
 mod unfit;
 
+pub use cell::Cell;
 pub use change::Change;
 pub use changed::Changed;
 pub use commit::Commit;

@@ -9,7 +9,7 @@ use Rattle.rev_nodes.specs.declared.node.Node.{Node}
 use Rattle.rev_nodes.specs.declared.line.Line.{Line}
 use Rattle.rev_nodes.specs.Trees.{TreeNode, Tree, at}
 use Rattle.rev_nodes.specs.Formed.{IsFormed}
-use Rattle.node_table.specs.declared.cell.Cell.{Cell}
+use Rattle.rev_nodes.specs.declared.cell.Cell.{Cell}
 use Rattle.node_table.specs.Ways.{Name, are_names, path_at}
 use Rattle.node_table.specs.Tables.{cell_at, child_in, below_line}
 

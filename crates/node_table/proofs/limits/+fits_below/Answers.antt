@@ -1,6 +1,6 @@
 use Rattle.std.proofs.Common.{◌≡◌, ◌<◌, ◌≤◌, ◌-◌, ℕ, suc, List, true, false, length, get_or, sym, ap, subst, ◌∙◌, arith}
 use Rattle.rev_nodes.specs.declared.entry.Entry.{Entry}
-use Rattle.node_table.specs.declared.cell.Cell.{Cell}
+use Rattle.rev_nodes.specs.declared.cell.Cell.{Cell}
 use Rattle.node_table.specs.Tables.{cell_at}
 use Rattle.node_table.proofs.Limited.{all_by, item_lower, no_level, no_room, long_item}
 use Rattle.node_table.proofs.limits.+fits_below.Goals as goal

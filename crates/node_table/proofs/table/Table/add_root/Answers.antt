@@ -1,8 +1,7 @@
 use Rattle.std.proofs.Common.{◌≡◌, ◌∷◌, [], ℕ, List, sym, ap, ◌∙◌}
 use Rattle.rev_nodes.specs.declared.kind.Kind.TheVariants.{Dir}
 use Rattle.node_table.specs.Steps.{new_cell}
-use Rattle.node_table.proofs.Upwards.{ok_both}
-use Rattle.node_table.proofs.Roots.{root_kept, root_is_base, root_is_shown}
+use Rattle.node_table.proofs.Roots.{ok_both, root_kept, root_is_base, root_is_shown}
 use Rattle.node_table.proofs.table.Table.add_root.Goals as goal
 
 pub invariant_of-self : goal.invariant_of-self

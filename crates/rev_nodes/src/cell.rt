@@ -1,7 +1,9 @@
+use crate::entry::Entry;
+use crate::line::Line;
+use crate::node::Node;
 use dsv_base::List;
-use rev_nodes::{Entry, Line, Node};
 
-/// A node as the table holds it.
+/// A node as a table of nodes holds it, with what stands in it.
 #[derive(Debug, Drop)]
 pub struct Cell {
     pub node: Node,
