@@ -20,7 +20,8 @@ use Rattle.rev_nodes.specs.Subtrees.{path_below, AreSameBelow, HaveEqualSubtrees
 use Rattle.rev_nodes.proofs.Below.{same_from, equal_itself, differ}
 use Rattle.rev_nodes.proofs.Forming.{tied, tied_self}
 
-abbrev key : Entry → List ℕ × ℕ
+-- an entry as a name with its number
+abbrev pub key : Entry → List ℕ × ℕ
 key entry = (entry.name, entry.id)
 
 -- look-ups without the numbers
@@ -58,7 +59,8 @@ module _ (directory name : List ℕ) (is : is_path directory ≡ true) (named : 
       by true e = sym (ap (λ p. eq_by_cmp (slice_cmp nat_cmp) p path) (ap (join_text directory) (tied name (name_of path) e) ∙ child_path path one child) ∙ tied_self path)
       by false e = sym (untied (join_text directory name) path (λ same. let t = ap (λ n. eq_by_cmp (slice_cmp nat_cmp) name n) (sym (name_of-join directory name named) ∙ ap name_of same) in let s = tied_self name in cc (t, s, e)))
 
-  find-entry : (forest : Forest) (rev : ℕ) (places : List (List ℕ × Numbered)) → All (IsSoundPlace forest rev) places → find (slice_cmp nat_cmp) name (map key (filter_map (entry_in directory) places)) ≡ option_map (λ (p : Numbered). p.id) (find (slice_cmp nat_cmp) (join_text directory name) places)
+  -- the first entry of a name is the first place of its path
+  pub find-entry : (forest : Forest) (rev : ℕ) (places : List (List ℕ × Numbered)) → All (IsSoundPlace forest rev) places → find (slice_cmp nat_cmp) name (map key (filter_map (entry_in directory) places)) ≡ option_map (λ (p : Numbered). p.id) (find (slice_cmp nat_cmp) (join_text directory name) places)
   find-entry forest rev [] all = refl
   find-entry forest rev (p ∷ ps) all = by (is_child directory p.0) refl (find-entry forest rev ps (All-tail (IsSoundPlace forest rev) p ps all))
     where
