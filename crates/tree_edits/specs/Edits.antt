@@ -10,14 +10,9 @@ use Rattle.rev_nodes.specs.declared.line.Line.{Line}
 use Rattle.rev_nodes.specs.Trees.{TreeNode, Tree, at}
 use Rattle.rev_nodes.specs.Formed.{IsFormed}
 use Rattle.rev_nodes.specs.declared.cell.Cell.{Cell}
+pub use Rattle.tree_edits.specs.declared.held.Held.{Held}
 use Rattle.node_table.specs.Ways.{Name, are_names, path_at}
 use Rattle.node_table.specs.Tables.{cell_at, child_in, below_line}
-
--- what stands at a place: its node, its line, and the number of the table whose entries stand in it where no edit says otherwise
-pub record Held : Type 0 where
-  pub node : Node
-  pub line : Line
-  pub under : Option ℕ
 
 -- the touched paths in byte order, each once, with what stands there now, or that nothing does
 abbrev pub Touched : Type 0
