@@ -16,7 +16,7 @@ use crate::push_fault::PushFault;
 use crate::ready::Ready;
 use crate::revision::{KeptRevision, revision_of};
 use dsv_base::{Bytes, List, NoMemory, Path, Rev};
-use node_table::Table;
+use node_table::{Table, place_at};
 use rev_nodes::{Changed, Commit, Entry, Line, Node, NodeId};
 use std::alloc::Global;
 use std::marker::Model;
@@ -150,7 +150,7 @@ impl Trees {
         ensures { result ≡ id_at self.now rev path.now }
     {
         let root = revision_of(self.revisions.as_slice(), rev.get() as usize).root;
-        self.table.look(root, path)
+        place_at(self.table.cells(), root, path)
     }
 
     /// What stands in the node of this number, in byte order of the paths, and so of the names; nothing

@@ -1,0 +1,18 @@
+use Rattle.std.proofs.Common.{◌<◌, length, sym, subst, ◌∙◌, ap}
+use Rattle.rev_trees.proofs.Viewed.{length-of}
+use Rattle.rev_trees.proofs.Learned.{look-of}
+use Rattle.rev_trees.proofs.trees.Trees.look.Goals as goal
+
+pub revision_of-requires : goal.revision_of-requires
+revision_of-requires c = let e = length-of _ _ _ _ _ _ _ c.self.view_is in rw (c.as_slice.ensures.value, c.get.ensures.value, ← e) c.requires
+
+pub place_at-requires-clause-within : goal.place_at-requires-clause-within
+place_at-requires-clause-within c =
+    let below = subst (λ n. c.args.rev < n) (length-of _ _ _ _ _ _ _ c.self.view_is) c.requires in
+    rw (c.cells.ensures.cells, c.revision_of.ensures, c.as_slice.ensures.value, c.get.ensures.value) (c.self.invariant.kept c.args.rev below).within
+
+pub returns : goal.returns
+returns c =
+    let below = subst (λ n. c.args.rev < n) (length-of _ _ _ _ _ _ _ c.self.view_is) c.requires in
+    (rw (c.cells.ensures.cells, c.revision_of.ensures, c.as_slice.ensures.value, c.get.ensures.value) at c.place_at.ensures.place)
+    ∙ look-of c.self.inside.name c.self.inside.uuid c.self.inside.table.cells c.self.inside.revisions.items _ _ c.args.self.now c.self.view_is c.self.invariant c.args.rev c.args.path.now below c.place_at.ensures.path
