@@ -1,5 +1,5 @@
 -- What a search among entries in order finds.
-use Rattle.std.proofs.Common.{◌≡◌, ℕ, zero, suc, ◌<◌, ◌≤◌, T, Bool, true, false, cond, List, [], ◌∷◌, Option, None, Some, Result, Ok, Err, IfOk, length, map, get_or, refl, sym, ap, subst, ◌∙◌, inl, inr, arith}
+use Rattle.std.proofs.Common.{◌≡◌, ℕ, zero, suc, ◌<◌, T, Bool, true, false, cond, List, [], ◌∷◌, None, Some, Result, Ok, Err, IfOk, length, map, get_or, refl, sym, ap, subst, ◌∙◌, inl, inr, arith}
 use Rattle.std.specs.Prelude.{OnErr}
 use Rattle.std.proofs.lemmas.Bool.{cases_lt}
 use Rattle.std.proofs.lemmas.List.Sorted.{IsNonDecreasingBy-from_default}
@@ -10,7 +10,7 @@ use Rattle.std.specs.Cmp.{tied_itself}
 use Rattle.std.specs.Cmp.Lexicographic.{slice_cmp, nat_list_cmp_total}
 use Rattle.rev_nodes.specs.declared.entry.Entry.{Entry}
 use Rattle.rev_nodes.proofs.Forming.{tied}
-use Rattle.rev_nodes.proofs.Search.{find_here, IsGap, find_gap, comparisons_rise}
+use Rattle.rev_nodes.proofs.Search.{find_here, find_gap, comparisons_rise}
 use Rattle.node_table.specs.Ways.{Name}
 use Rattle.node_table.specs.Tables.{pair, child, are_in_order, IsEntryAt}
 
@@ -65,7 +65,7 @@ module _ (entries : List Entry) (name : Name) (sorted : T (are_in_order entries)
 pub own_entry : (entries : List Entry) → are_in_order entries ≡ true → (k : ℕ) (d : Entry) → k < length entries → child (get_or entries k d).name entries ≡ Some (get_or entries k d).id
 own_entry entries sorted k d within =
     find_here (slice_cmp nat_cmp) nat_list_cmp_total (get_or entries k d).name (map pair entries) k (pair d) (subst T (sym sorted) tt) (omega (arith, within, length-pairs entries))
-        (ap (λ (e : Name × ℕ). slice_cmp nat_cmp e.0 (get_or entries k d).name) (get_or-pairs entries k d) ∙ tied_itself nat_list_cmp_total (get_or entries k d).name)
+    (ap (λ (e : Name × ℕ). slice_cmp nat_cmp e.0 (get_or entries k d).name) (get_or-pairs entries k d) ∙ tied_itself nat_list_cmp_total (get_or entries k d).name)
     ∙ ap (λ (e : Name × ℕ). Some e.1) (get_or-pairs entries k d)
 
 -- what is found at a name is an entry

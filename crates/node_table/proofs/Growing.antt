@@ -1,7 +1,7 @@
 -- What a growing table shows stays as it was.
-use Rattle.std.proofs.Common.{◌≡◌, ℕ, zero, suc, ◌+◌, ◌<◌, ◌≤◌, Bool, true, false, List, [], ◌∷◌, ◌++◌, Option, None, Some, length, get_or, refl, sym, ap, subst, ◌∙◌, arith, inl, inr, length-append}
-use Rattle.std.specs.Prelude.{IsTrue, nat_le}
-use Rattle.std.specs.Option.{option_map, option_and_then}
+use Rattle.std.proofs.Common.{◌≡◌, ℕ, zero, suc, ◌<◌, ◌≤◌, false, List, [], ◌∷◌, ◌++◌, Option, None, Some, length, get_or, refl, sym, ap, subst, ◌∙◌, arith, inl, inr, length-append}
+use Rattle.std.specs.Prelude.{IsTrue}
+use Rattle.std.specs.Option.{option_map}
 use Rattle.std.proofs.lemmas.Bool.{cases_lt}
 use Rattle.rev_nodes.specs.declared.entry.Entry.{Entry}
 use Rattle.rev_nodes.specs.declared.line.Line.{Line}
@@ -9,7 +9,7 @@ use Rattle.rev_nodes.specs.Trees.{TreeNode, is_dir_kind}
 use Rattle.rev_nodes.specs.declared.cell.Cell.{Cell}
 use Rattle.node_table.specs.Ways.{Name}
 use Rattle.node_table.specs.Heights.{height_below, higher}
-use Rattle.node_table.specs.Tables.{are_in_order, height_over, cell_at, no_cell, child, child_in, reach, Spot, spot_in, below_line, step, walk, node_at, seen, IsChild, IsCell, IsSound}
+use Rattle.node_table.specs.Tables.{are_in_order, height_over, cell_at, no_cell, child, child_in, reach, Spot, spot_in, below_line, step, walk, node_at, seen, IsCell, IsSound}
 use Rattle.node_table.proofs.EntriesFound.{own_entry}
 
 pub cell_at-kept : (cells more : List Cell) (id : ℕ) → id < length cells → cell_at (cells ++ more) id ≡ cell_at cells id

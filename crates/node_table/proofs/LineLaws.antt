@@ -1,5 +1,5 @@
 -- The lines that are seen are those of the tree that a root shows.
-use Rattle.std.proofs.Common.{◌≡◌, ℕ, true, List, [], ◌∷◌, Option, None, Some, refl, sym, ap, ◌∙◌}
+use Rattle.std.proofs.Common.{◌≡◌, ℕ, true, List, [], ◌∷◌, Option, None, Some, refl, sym, ap, subst, ◌∙◌}
 use Rattle.std.specs.List.{All}
 use Rattle.std.specs.Option.{option_map}
 use Rattle.std.proofs.lemmas.Bool.{and_from}
@@ -10,7 +10,7 @@ use Rattle.rev_nodes.specs.Trees.{TreeNode, Tree, at}
 use Rattle.rev_nodes.specs.SoundNodes.{is_from_path, HasSoundNode}
 use Rattle.rev_nodes.proofs.NodesSound.{sound-found}
 use Rattle.node_table.specs.Ways.{Name, are_names, path_at, names_in}
-use Rattle.node_table.specs.Tables.{cell_at, child_in, Spot, spot_in, walk, node_at, IsSound}
+use Rattle.node_table.specs.Tables.{below_line, cell_at, child_in, Spot, spot_in, walk, node_at, IsSound}
 use Rattle.node_table.specs.Rebuilt.{root_spot}
 use Rattle.node_table.specs.Shown.{IsShown}
 use Rattle.node_table.specs.Lines.{line_seen, ComeFromPaths}
@@ -30,8 +30,21 @@ line_next cells spot n ns i e = ap (λ o. option_map (λ (s : Spot). s.line) (wa
 pub paths_next : (cells : List Cell) (spot : Spot) (n : Name) (i : ℕ) → child_in cells n spot.id ≡ Some i → ComeFromPaths cells spot → ComeFromPaths cells (spot_in cells spot.line n i)
 paths_next cells spot n i e paths ns s w = paths (n ∷ ns) s (ap (λ o. walk cells (option_map (spot_in cells spot.line n) o) ns) e ∙ w)
 
-pub path_here : (cells : List Cell) (spot : Spot) → ComeFromPaths cells spot → is_from_path spot.line.source ≡ true
-path_here cells spot paths = paths [] spot refl
+-- ---- for the code
+
+module _ (cells : List Cell) (id : ℕ) (line : Line) (n : Name) where
+  abbrev here : Spot
+  here = record { id = id; line = line }
+
+  pub none_seen : (rest ns : List Name) → ns ≡ n ∷ rest → child_in cells n id ≡ None → None ≡ line_seen cells here ns
+  none_seen rest ns cut e = sym (ap (line_seen cells here) cut ∙ no_line cells here n rest e)
+
+  module _ (i : ℕ) (e : child_in cells n id ≡ Some i) (paths : ComeFromPaths cells here) (cell : Cell) (cell_is : cell ≡ cell_at cells i) where
+    pub path_there : is_from_path (below_line line n cell.line).source ≡ true
+    path_there = ap (λ (c : Cell). is_from_path (below_line line n c.line).source) cell_is ∙ paths_next cells here n i e paths [] (spot_in cells line n i) refl
+
+    pub paths_there : (own : Line) → own ≡ below_line line n cell.line → ComeFromPaths cells (let s : Spot = record { id = i; line = own } in s)
+    paths_there own own_is = subst (λ (l : Line). ComeFromPaths cells (let s : Spot = record { id = i; line = l } in s)) (sym (own_is ∙ ap (λ (c : Cell). below_line line n c.line) cell_is)) (paths_next cells here n i e paths)
 
 -- ---- by the tree that is shown
 

@@ -1,5 +1,5 @@
 -- The numbers of a tree's places: each stands where its names lead to, with the entries and the node of its cell.
-use Rattle.std.proofs.Common.{◌≡◌, ℕ, ◌<◌, Bool, true, false, ◌&&◌, cond, T, List, [], ◌∷◌, ◌++◌, Option, None, Some, length, get_or, map, refl, sym, ap, subst, ◌∙◌}
+use Rattle.std.proofs.Common.{◌≡◌, ℕ, Bool, true, false, ◌&&◌, cond, T, List, [], ◌∷◌, ◌++◌, Option, None, Some, get_or, refl, sym, ap, subst, ◌∙◌}
 use Rattle.std.specs.Prelude.{is_some}
 use Rattle.std.specs.List.{All}
 use Rattle.std.specs.Option.{option_map, option_map_or, option_and_then}
@@ -12,7 +12,6 @@ use Rattle.std.proofs.lemmas.Bool.{and_from}
 use Rattle.std.proofs.lemmas.List.Elements.{All-map, All-from_get_or}
 use Rattle.dsv_base.specs.Paths.{is_path, is_component, root_text, join_text}
 use Rattle.rev_nodes.specs.declared.cell.Cell.{Cell}
-use Rattle.rev_nodes.specs.declared.entry.Entry.{Entry}
 use Rattle.rev_nodes.specs.declared.kind.Kind.TheVariants.{File}
 use Rattle.rev_nodes.specs.declared.node.Node.{Node}
 use Rattle.rev_nodes.specs.Trees.{TreeNode, Tree, at}
@@ -24,7 +23,7 @@ use Rattle.rev_nodes.proofs.Search.{find_here}
 use Rattle.rev_nodes.proofs.NodesSound.{at_paths}
 use Rattle.rev_nodes.proofs.EntryNames.{StandsAtPath, entries-are}
 use Rattle.node_table.specs.Ways.{Name, are_names, path_at, names_in}
-use Rattle.node_table.specs.Tables.{cell_at, child_in, reach, Spot, walk, node_at, IsSound}
+use Rattle.node_table.specs.Tables.{cell_at, child_in, reach, walk, node_at, IsSound}
 use Rattle.node_table.specs.Rebuilt.{root_spot}
 use Rattle.node_table.specs.Shown.{IsShown}
 use Rattle.node_table.specs.Numbers.{number_at, numbered_place, numbered}

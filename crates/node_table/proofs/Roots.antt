@@ -1,5 +1,5 @@
 -- A table with a root of its own shows the root alone.
-use Rattle.std.proofs.Common.{Result, Ok, Err, ◌≡◌, ℕ, ◌+◌, ◌<◌, ◌≤◌, Bool, true, false, cond, List, [], ◌∷◌, ◌++◌, None, Some, length, refl, sym, ap, subst, ◌∙◌, arith, length-append}
+use Rattle.std.proofs.Common.{Result, Ok, Err, ◌≡◌, ℕ, ◌≤◌, Bool, true, false, cond, List, [], ◌∷◌, ◌++◌, None, Some, length, refl, sym, ap, subst, ◌∙◌, arith, length-append}
 use Rattle.std.specs.Prelude.{IsTrue, IfOk, OnOk, OnErr, is_some}
 use Rattle.std.specs.Option.{option_map}
 use Rattle.std.specs.Ordering.{nat_cmp, eq_by_cmp}
@@ -8,18 +8,17 @@ use Rattle.std.proofs.lemmas.Bool.{false_from_ne_true}
 use Rattle.std.specs.Str.{bytes_eq}
 use Rattle.dsv_base.specs.Paths.{parent_text, is_path, root_text}
 use Rattle.rev_nodes.specs.declared.kind.Kind.TheVariants.{Dir}
-use Rattle.rev_nodes.specs.Trees.{TreeNode, Tree, at, is_dir, new_dir, is_dir_kind}
+use Rattle.rev_nodes.specs.Trees.{TreeNode, Tree, at, is_dir, new_dir}
 use Rattle.rev_nodes.specs.Formed.{has_ordered_props, IsFormed}
-use Rattle.rev_nodes.proofs.Below.{equal_itself}
 use Rattle.rev_nodes.proofs.Forming.{tied}
 use Rattle.rev_nodes.specs.declared.cell.Cell.{Cell}
 use Rattle.node_table.specs.Ways.{Name, are_names, path_at}
-use Rattle.node_table.specs.Tables.{are_in_order, height_over, cell_at, child, spot_in, node_at, seen, IsCell, IsSound}
+use Rattle.node_table.specs.Tables.{are_in_order, height_over, cell_at, child, spot_in, node_at, seen, IsSound}
 use Rattle.node_table.specs.Rebuilt.{root_spot}
 use Rattle.node_table.specs.Shown.{IsShown}
 use Rattle.node_table.specs.Steps.{IsBase, new_cell}
 use Rattle.node_table.proofs.Fronts.{not-root}
-use Rattle.node_table.proofs.Growing.{cell_at-next, cell_at-past, no_cell_sound, sound-more, walk_none}
+use Rattle.node_table.proofs.Growing.{cell_at-next, no_cell_sound, sound-more, walk_none}
 
 -- ---- for the code
 

@@ -1,5 +1,5 @@
 -- How long ways of names are, as far as the limits of paths need it: a greatest length stands for all above it, too.
-use Rattle.std.specs.Prelude.{ℕ, ◌+◌, min, max, length}
+use Rattle.std.specs.Prelude.{◌+◌, min, max, length}
 use Rattle.rev_nodes.specs.declared.height.Height.{Height}
 use Rattle.node_table.specs.Ways.{Name}
 

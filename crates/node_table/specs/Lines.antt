@@ -1,5 +1,5 @@
 -- The lines that are seen from a place on.
-use Rattle.std.specs.Prelude.{ℕ, ◌≡◌, List, Option, Some, IsTrue}
+use Rattle.std.specs.Prelude.{◌≡◌, List, Option, Some, IsTrue}
 use Rattle.std.specs.Option.{option_map}
 use Rattle.rev_nodes.specs.declared.cell.Cell.{Cell}
 use Rattle.rev_nodes.specs.declared.line.Line.{Line}

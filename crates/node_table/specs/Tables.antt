@@ -12,7 +12,6 @@ use Rattle.rev_nodes.specs.declared.entry.Entry.{Entry}
 use Rattle.rev_nodes.specs.declared.height.Height.{Height}
 use Rattle.rev_nodes.specs.declared.kind.Kind.TheVariants.{File}
 use Rattle.rev_nodes.specs.declared.line.Line.{Line}
-use Rattle.rev_nodes.specs.declared.node.Node.{Node}
 use Rattle.rev_nodes.specs.Trees.{TreeNode, is_dir_kind}
 use Rattle.rev_nodes.specs.declared.cell.Cell.{Cell}
 use Rattle.node_table.specs.Ways.{Name}

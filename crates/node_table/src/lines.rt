@@ -64,12 +64,7 @@ fn line_below(above: &Line, name: &[u8], own: &Line) -> Result<Line, NoMemory>
 }
 
 /// The line where names lead to from a place with this line.
-fn line_from(
-    cells: &[Cell],
-    id: NodeId,
-    line: &Line,
-    rest: &[u8],
-) -> Result<Option<Line>, NoMemory>
+fn line_from(cells: &[Cell], id: NodeId, line: &Line, rest: &[u8]) -> Result<Option<Line>, NoMemory>
     requires sound { IsSound cells.now }
     requires within { id < length cells.now }
     requires paths { ComeFromPaths cells.now (record { id = id; line = line.now }) }

@@ -1,4 +1,4 @@
-use Rattle.std.proofs.Common.{◌≡◌, ◌∷◌, [], ℕ, List, sym, ap, ◌∙◌}
+use Rattle.std.proofs.Common.{ap, ◌∙◌}
 use Rattle.rev_nodes.specs.declared.kind.Kind.TheVariants.{Dir}
 use Rattle.node_table.specs.Steps.{new_cell}
 use Rattle.node_table.proofs.Roots.{ok_both, root_kept, root_is_base, root_is_shown}

@@ -1,4 +1,4 @@
-use Rattle.std.proofs.Common.{◌≡◌, subst}
+use Rattle.std.proofs.Common.{subst}
 use Rattle.node_table.specs.Tables.{IsSound}
 use Rattle.node_table.specs.Rooms.{RoomyTable}
 use Rattle.node_table.proofs.table.Table.cells.Goals as goal
