@@ -24,12 +24,16 @@ use Rattle.rev_nodes.proofs.Search.{find_here}
 use Rattle.rev_nodes.proofs.Subtrees.{find-tree_of}
 use Rattle.node_table.specs.Ways.{names_in}
 use Rattle.node_table.specs.Tables.{cell_at, reach}
+use Rattle.node_table.specs.Rebuilt.{root_spot}
+use Rattle.node_table.specs.Numbers.{numbered}
+use Rattle.node_table.specs.Lines.{line_seen, ComeFromPaths}
 use Rattle.node_table.proofs.Growing.{reach_within}
+use Rattle.node_table.proofs.LineLaws.{come_from_paths, line_is}
+use Rattle.node_table.proofs.Numbers.{tree-numbered, sorted-numbered, IsLed, numbered_at, entries_at}
 use Rattle.rev_trees.specs.declared.revision.KeptRevision.{KeptRevision}
-use Rattle.rev_trees.specs.Kept.{trees_in, numbered, forest_of, kept_at, IsKept, AreKept}
-use Rattle.rev_trees.proofs.Numbers.{tree_of-numbered, sorted-numbered, number_is, StandsAt, stands_at, node_is}
+use Rattle.rev_trees.specs.Kept.{trees_in, forest_of, kept_at, IsKept, AreKept}
+use Rattle.rev_trees.proofs.PlacesFound.{number_is, node_is}
 use Rattle.rev_trees.proofs.Viewed.{length-of, nodes-of, commit-of, places-of, places-past}
-use Rattle.rev_trees.proofs.EntriesLaw.{entries_are}
 
 module _ (name uuid : List ℕ) (cells : List Cell) (rs : List KeptRevision) (room node_room : ℕ) (forest : Forest) (is : forest_of name uuid cells rs room node_room ≡ forest) (kept : AreKept cells rs) where
   -- the root and the tree of a revision
@@ -39,14 +43,14 @@ module _ (name uuid : List ℕ) (cells : List Cell) (rs : List KeptRevision) (ro
   abbrev tree : ℕ → Tree
   tree rev = tree_at (trees_in rs) rev
 
-  places : (rev : ℕ) → rev < length rs → places_at forest rev ≡ map (numbered cells (root rev)) (tree rev)
+  places : (rev : ℕ) → rev < length rs → places_at forest rev ≡ numbered cells (root rev) (tree rev)
   places rev h = places-of name uuid cells rs room node_room forest is rev h
 
   no_places : (rev : ℕ) → length rs ≤ rev → places_at forest rev ≡ []
   no_places rev h = places-past name uuid cells rs room node_room forest is rev h
 
   tree-is : (rev : ℕ) → rev < length rs → tree_of (places_at forest rev) ≡ tree rev
-  tree-is rev h = ap tree_of (places rev h) ∙ tree_of-numbered cells (root rev) (tree rev)
+  tree-is rev h = ap tree_of (places rev h) ∙ tree-numbered cells (root rev) (tree rev)
 
   pub formed-of : AreFormed forest
   formed-of rev below =
@@ -71,15 +75,15 @@ module _ (name uuid : List ℕ) (cells : List Cell) (rs : List KeptRevision) (ro
     | inr past ↦ absurd (let none = ap (λ (ps : List (List ℕ × Numbered)). option_map (λ (p : Numbered). p.id) (find (slice_cmp nat_cmp) path ps)) (no_places rev past) in cc (none, e))
   ]
 
-  id-in : (rev : ℕ) (path : List ℕ) (id : ℕ) → rev < length rs → id_at forest rev path ≡ Some id → option_map (λ (p : Numbered). p.id) (find (slice_cmp nat_cmp) path (map (numbered cells (root rev)) (tree rev))) ≡ Some id
+  id-in : (rev : ℕ) (path : List ℕ) (id : ℕ) → rev < length rs → id_at forest rev path ≡ Some id → option_map (λ (p : Numbered). p.id) (find (slice_cmp nat_cmp) path (numbered cells (root rev) (tree rev))) ≡ Some id
   id-in rev path id h e = ap (λ (ps : List (List ℕ × Numbered)). option_map (λ (p : Numbered). p.id) (find (slice_cmp nat_cmp) path ps)) (sym (places rev h)) ∙ e
 
-  there : (rev : ℕ) (path : List ℕ) (id : ℕ) → id_at forest rev path ≡ Some id → StandsAt cells (root rev) (tree rev) path id
-  there rev path id e = let h = stands_in rev path id e in stands_at cells (root rev) (tree rev) (kept.kept rev h).shown path id (id-in rev path id h e)
+  there : (rev : ℕ) (path : List ℕ) (id : ℕ) → id_at forest rev path ≡ Some id → IsLed cells (root rev) (tree rev) path id
+  there rev path id e = let h = stands_in rev path id e in numbered_at cells (root rev) (tree rev) (kept.kept rev h).shown path id (id-in rev path id h e)
 
   -- a number is one of the table
   pub id_below : (id : ℕ) → IsId forest id → id < length cells
-  id_below id i = reach_within cells kept.sound (names_in i.1) (root i.0) id (kept.kept i.0 (stands_in i.0 i.1 id i.2)).within (there i.0 i.1 id i.2).leads
+  id_below id i = reach_within cells kept.sound (names_in i.1) (root i.0) id (kept.kept i.0 (stands_in i.0 i.1 id i.2)).within (there i.0 i.1 id i.2).led
 
   pub number_below : (id : ℕ) → IsId forest id → id < length forest.nodes
   number_below id i = subst (λ (cs : List Cell). id < length cs) (sym (nodes-of name uuid cells rs room node_room forest is)) (id_below id i)
@@ -95,9 +99,13 @@ module _ (name uuid : List ℕ) (cells : List Cell) (rs : List KeptRevision) (ro
       number_is cells (root rev) (tree rev) (kept.kept rev h).shown path one
       ∙ ap (λ (ps : List (List ℕ × Numbered)). option_map (λ (p : Numbered). p.id) (find (slice_cmp nat_cmp) path ps)) (sym (places rev h))
 
-  pub line-of : (rev : ℕ) (path : List ℕ) → rev < length rs → option_map (λ (found : TreeNode). found.line) (at path (tree rev)) ≡ line_at forest rev path
-  line-of rev path h =
-      ap (λ (t : Tree). option_map (λ (found : TreeNode). found.line) (at path t)) (sym (tree-is rev h))
+  pub paths-of : (rev : ℕ) → rev < length rs → ComeFromPaths cells (root_spot cells (root rev))
+  paths-of rev h = come_from_paths cells (root rev) (tree rev) (kept.kept rev h).shown kept.sound rev (kept.kept rev h).nodes
+
+  pub line-of : (rev : ℕ) (path : List ℕ) → rev < length rs → is_path path ≡ true → line_seen cells (root_spot cells (root rev)) (names_in path) ≡ line_at forest rev path
+  line-of rev path h one =
+      line_is cells (root rev) (tree rev) (kept.kept rev h).shown path one
+      ∙ ap (λ (t : Tree). option_map (λ (found : TreeNode). found.line) (at path t)) (sym (tree-is rev h))
       ∙ ap (option_map (λ (found : TreeNode). found.line)) (find-tree_of (places_at forest rev) path)
       ∙ lines (place_at forest rev path)
     where
@@ -125,7 +133,7 @@ module _ (name uuid : List ℕ) (cells : List Cell) (rs : List KeptRevision) (ro
       }
     where
       path : (p : List ℕ) (n : Numbered) → find (slice_cmp nat_cmp) p (places_at forest rev) ≡ Some n → is_path p ≡ true
-      path p n e = (there rev p n.id (ap (option_map (λ (q : Numbered). q.id)) e)).one
+      path p n e = (there rev p n.id (ap (option_map (λ (q : Numbered). q.id)) e)).path_is
 
   sound_places : (rev : ℕ) → All (IsSoundPlace forest rev) (places_at forest rev)
   sound_places rev = All-from_get_or (IsSoundPlace forest rev) (places_at forest rev) nowhere (sound_at rev)
@@ -133,7 +141,7 @@ module _ (name uuid : List ℕ) (cells : List Cell) (rs : List KeptRevision) (ro
   pub entries-of : (id : ℕ) → AreEntriesOf forest id (cell_at cells id).entries
   entries-of id rev path e =
       let h = stands_in rev path id e in
-      entries_are cells kept.sound (root rev) (tree rev) (kept.kept rev h).shown (kept.kept rev h).sorted forest rev (subst (All (IsSoundPlace forest rev)) (places rev h) (sound_places rev)) path id (there rev path id e)
+      entries_at cells (root rev) (tree rev) (kept.kept rev h).shown kept.sound (kept.kept rev h).sorted path id (there rev path id e)
       ∙ ap (entries_in path) (sym (places rev h))
 
   pub sound-of : IsSound forest

@@ -20,6 +20,7 @@ use Rattle.node_table.specs.Tables.{Spot, cell_at, seen, IsSound}
 use Rattle.node_table.specs.Rebuilt.{root_spot}
 use Rattle.node_table.specs.Shown.{IsShown}
 use Rattle.node_table.proofs.Growing.{cell_at-kept, seen-kept}
+use Rattle.node_table.proofs.Numbers.{tree-numbered}
 use Rattle.rev_trees.specs.declared.push_fault.PushFault.{PushFault}
 use Rattle.rev_trees.specs.declared.push_fault.PushFault.TheVariants as faults
 use Rattle.rev_trees.specs.declared.revision.KeptRevision.{KeptRevision}
@@ -28,7 +29,6 @@ use Rattle.rev_trees.specs.Readies.{ReadyRevision, IsReadyOn, IsNext, Prepares, 
 use Rattle.rev_trees.specs.Kept.{tree_or_none, youngest, made_of, after, trees_in, revision_in, revisions_in, forest_of, kept_at, IsKept, AreKept, tree_made, ready_of, IsReady}
 use Rattle.rev_trees.specs.Made.{IsMade, Makes}
 use Rattle.rev_trees.proofs.Replay.{trees-push, trees-length, length-push, tree_at-push, tree_at-last, kept_at-push, kept_at-last}
-use Rattle.rev_trees.proofs.Numbers.{tree_of-numbered}
 use Rattle.rev_trees.proofs.Viewed.{in-push, in-kept, length-of, nodes-of, room-of, node_room-of, youngest-is, after-is}
 
 -- ---- a longer table shows the same
@@ -139,7 +139,7 @@ module _ (name uuid : List ℕ) (cells : List Cell) (rs : List KeptRevision) (ro
         ∙ ap (λ (qs : List ForestRevision). qs ++ revision_in (cells ++ more) r (after (trees_in rs) r.commit) ∷ []) (in-kept cells more kept.sound rs (trees_in rs) (λ rev h. (kept.kept rev h).within) ∙ ap (λ (f : Forest). f.revisions) is);
     commit = ap (λ (q : ReadyRevision). q.commit) as_ready;
     changed = ap (λ (q : ReadyRevision). q.changed) as_ready;
-    tree = tree_of-numbered (cells ++ more) r.root (after (trees_in rs) r.commit) ∙ sym tree_on ∙ ap (λ (q : ReadyRevision). q.tree) as_ready;
+    tree = tree-numbered (cells ++ more) r.root (after (trees_in rs) r.commit) ∙ sym tree_on ∙ ap (λ (q : ReadyRevision). q.tree) as_ready;
     more = more;
     nodes = ap (λ (cs : List Cell). cs ++ more) (ap (λ (f : Forest). f.nodes) is);
     few = subst (λ (q : ReadyRevision). length more ≤ 65 * length q.commit.changes) as_ready made.sparse;
@@ -165,7 +165,7 @@ module _ (name uuid : List ℕ) (cells : List Cell) (rs : List KeptRevision) (ro
       let some = kept.some in
       let n = trees-length rs in
       let before : All (HasSoundNode (length rs)) (youngest (trees_in rs)) = later_nodes (length (trees_in rs) - 1) (length rs) (youngest (trees_in rs)) (omega (arith, some, n)) (kept_trees cells rs kept (length (trees_in rs) - 1)) in
-      sound_changes (length rs) (trees_in rs) (trees-length rs) (kept_trees cells rs kept) commit.changes 0 (youngest (trees_in rs)) made.tree sound.changes read_is before
+      sound_changes (length rs) (trees_in rs) (trees-length rs) (kept_trees cells rs kept) (λ rev h. (kept.kept rev (omega (arith, n, h))).shown.formed) commit.changes 0 (youngest (trees_in rs)) made.tree sound.changes read_is before
 
   commit_made : IsCommitOf (length rs) commit
   commit_made = let some = kept.some in record {

@@ -11,9 +11,11 @@ use Rattle.rev_nodes.specs.Forests.{Numbered, ForestRevision, Forest, no_revisio
 use Rattle.rev_nodes.specs.Pushes.{trees_of, youngest_tree, tree_after}
 use Rattle.rev_nodes.proofs.Forming.{past_end}
 use Rattle.node_table.specs.Tables.{IsSound}
+use Rattle.node_table.specs.Numbers.{numbered}
+use Rattle.node_table.proofs.Numbers.{tree-numbered}
 use Rattle.rev_trees.specs.declared.revision.KeptRevision.{KeptRevision}
-use Rattle.rev_trees.specs.Kept.{youngest, made_of, trees_in, numbered, revision_in, revisions_in, forest_of, no_kept_revision, kept_at}
-use Rattle.rev_trees.proofs.Numbers.{tree_of-numbered, numbered-kept}
+use Rattle.rev_trees.specs.Kept.{youngest, made_of, trees_in, revision_in, revisions_in, forest_of, no_kept_revision, kept_at}
+use Rattle.rev_trees.proofs.PlacesFound.{numbered-kept}
 use Rattle.rev_trees.proofs.Replay.{trees-length}
 
 in-length : (cells : List Cell) (rs : List KeptRevision) (ts : List Tree) → length ts ≡ length rs → length (revisions_in cells rs ts) ≡ length rs
@@ -43,7 +45,7 @@ in-trees : (cells : List Cell) (rs : List KeptRevision) (ts : List Tree) → len
 in-trees cells [] [] same = refl
 in-trees cells [] (t ∷ ts) same = absurd (omega arith)
 in-trees cells (r ∷ rs) [] same = absurd (omega arith)
-in-trees cells (r ∷ rs) (t ∷ ts) same = λ i. tree_of-numbered cells r.root t i ∷ in-trees cells rs ts (omega arith) i
+in-trees cells (r ∷ rs) (t ∷ ts) same = λ i. tree-numbered cells r.root t i ∷ in-trees cells rs ts (omega arith) i
 
 pub in-kept : (cells more : List Cell) → IsSound cells → (rs : List KeptRevision) (ts : List Tree) → ((rev : ℕ) → rev < length rs → (kept_at rs rev).root < length cells) → revisions_in (cells ++ more) rs ts ≡ revisions_in cells rs ts
 in-kept cells more sound [] ts within = refl
@@ -73,7 +75,7 @@ module _ (name uuid : List ℕ) (cells : List Cell) (rs : List KeptRevision) (ro
   pub changed-of : (rev : ℕ) → rev < length rs → (revision_at forest rev).changed ≡ (kept_at rs rev).changed
   changed-of rev h = ap (λ (r : ForestRevision). r.changed) (revision-of rev h)
 
-  pub places-of : (rev : ℕ) → rev < length rs → places_at forest rev ≡ map (numbered cells (kept_at rs rev).root) (tree_at (trees_in rs) rev)
+  pub places-of : (rev : ℕ) → rev < length rs → places_at forest rev ≡ numbered cells (kept_at rs rev).root (tree_at (trees_in rs) rev)
   places-of rev h = ap (λ (r : ForestRevision). r.places) (revision-of rev h)
 
   pub places-past : (rev : ℕ) → length rs ≤ rev → places_at forest rev ≡ []

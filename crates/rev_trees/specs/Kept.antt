@@ -8,15 +8,15 @@ use Rattle.rev_nodes.specs.declared.change.Change.TheVariants.{Put, SetProp, Del
 use Rattle.rev_nodes.specs.declared.changed.Changed.{Changed}
 use Rattle.rev_nodes.specs.declared.commit.Commit.{Commit}
 use Rattle.rev_nodes.specs.declared.unfit.Unfit.{Unfit}
-use Rattle.rev_nodes.specs.Trees.{TreeNode, Tree, Revision, first_tree, tree_at}
+use Rattle.rev_nodes.specs.Trees.{Tree, first_tree, tree_at}
 use Rattle.rev_nodes.specs.Changes.{apply_from}
 use Rattle.rev_nodes.specs.Commits.{IsCommitOf}
 use Rattle.rev_nodes.specs.Fitting.{in_order}
-use Rattle.rev_nodes.specs.Forests.{Numbered, ForestRevision, Forest, without_numbers, no_commit}
+use Rattle.rev_nodes.specs.Forests.{ForestRevision, Forest, without_numbers, no_commit}
 use Rattle.rev_nodes.specs.Pushes.{tree_after}
 use Rattle.rev_nodes.specs.SoundNodes.{HasSoundNode}
-use Rattle.node_table.specs.Ways.{names_in}
-use Rattle.node_table.specs.Tables.{cell_at, reach, IsSound}
+use Rattle.node_table.specs.Tables.{cell_at, IsSound}
+use Rattle.node_table.specs.Numbers.{numbered}
 use Rattle.node_table.specs.Shown.{IsShown}
 use Rattle.rev_trees.specs.declared.revision.KeptRevision.{KeptRevision}
 use Rattle.rev_trees.specs.Readies.{ReadyRevision}
@@ -52,25 +52,12 @@ abbrev pub trees_in : List KeptRevision → List Tree
 trees_in [] = []
 trees_in (revision ∷ revisions) = trees_from (first_tree ∷ []) (commits_of revisions)
 
--- a number that was found, or else 0
-abbrev pub or_zero : Option ℕ → ℕ
-or_zero None = 0
-or_zero (Some id) = id
-
--- the number that a path's names lead to from a root
-abbrev pub number_at : List Cell → ℕ → List ℕ → ℕ
-number_at cells root path = or_zero (reach cells (Some root) (names_in path))
-
--- a place of a root's tree with its number
-abbrev pub numbered : List Cell → ℕ → List ℕ × TreeNode → List ℕ × Numbered
-numbered cells root place = (place.0, record { id = number_at cells root place.0; here = place.1 })
-
 -- a revision as callers see it
 abbrev pub revision_in : List Cell → KeptRevision → Tree → ForestRevision
 revision_in cells revision tree = record {
   commit = revision.commit;
   changed = revision.changed;
-  places = map (numbered cells revision.root) tree;
+  places = numbered cells revision.root tree;
 }
 
 -- revisions as callers see them, each with its tree
