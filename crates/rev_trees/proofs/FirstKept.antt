@@ -25,7 +25,6 @@ first_kept cells root first sound none base shown rs is = subst (λ (qs : List K
     one : List KeptRevision
     one = record { commit = first; changed = []; root = root } ∷ []
 
-<<<<<<< HEAD
     kept : (rev : ℕ) → rev < length one → IsKept cells rev (tree_at (trees_in one) rev) (kept_at one rev).root (kept_at one rev).commit
     kept zero h = record {
       within = base.within;
@@ -36,24 +35,3 @@ first_kept cells root first sound none base shown rs is = subst (λ (qs : List K
       commit_is = record { sound = sound; sources = ap (λ (cs : List Change). list_all (comes_from_below 0) cs) none; first = λ e. none };
     }
     kept (suc rev) h = absurd (omega arith)
-=======
-    flat : (rev : ℕ) → IsFlat (places_in one rev)
-    flat zero = record { short = omega arith; sorted = refl }
-    flat (suc rev) = record { short = omega arith; sorted = refl }
-
-    listed : (rev : ℕ) → IsListed rev (places_in one rev) (lists_in one rev)
-    listed zero = root_listed
-    listed (suc rev) = none_listed (suc rev)
-
-    formed : (rev : ℕ) → rev < length one → IsFormed (tree_in (places_in one rev))
-    formed zero h = root_formed
-    formed (suc rev) h = absurd (omega arith)
-
-    nodes : (rev : ℕ) → All (HasSoundNode rev) (tree_in (places_in one rev))
-    nodes zero = All-cons (HasSoundNode 0) (root_text, node_of root_place) [] (record { created = omega arith; since = omega arith; source = tt; path = refl; names = refl }) (All-nil (HasSoundNode 0))
-    nodes (suc rev) = All-nil (HasSoundNode (suc rev))
-
-    commits : (rev : ℕ) → rev < length one → IsCommitOf rev (commit_in one rev)
-    commits zero h = record { sound = sound; sources = ap (λ (cs : List Change). list_all (comes_from_below 0) cs) none; first = λ e. none }
-    commits (suc rev) h = absurd (omega arith)
->>>>>>> 6ebfaf3ab9646d62c06e0e25313bdd996dba66f8

@@ -55,7 +55,7 @@ fn changed_in(
     let mut list = Vec::new(alloc);
     'rows: for row in table.rows() {
         let was = kind_before(cells, root, &row.path);
-        let now = kind_after(edits, cells, &row.path);
+        let now = kind_after(edits, cells, &row.path)?;
         if let Some(changed) = changed_at(table, was, now, &row.path)? {
             list.push(changed)?;
         }
@@ -76,9 +76,9 @@ fn kind_before(cells: &[Cell], root: NodeId, path: &Path) -> Option<Kind>
 }
 
 /// The kind of what edits show at a path.
-fn kind_after(edits: &Edits, cells: &[Cell], path: &Path) -> Option<Kind>
-    requires are { (rev : ℕ) × AreEdits rev cells.now edits.now }
-    ensures { result ≡ kind_after cells.now edits.now path.now }
+fn kind_after(edits: &Edits, cells: &[Cell], path: &Path) -> Result<Option<Kind>, NoMemory>
+    requires { (rev : ℕ) × AreEdits rev cells.now edits.now }
+    ensures { IfOk result (λ kind. kind ≡ kind_after cells.now edits.now path.now) }
 {
     edits.kind_at(cells, path)
 }

@@ -1,5 +1,6 @@
-ghost use Rattle.std.specs.Prelude.{◌≡◌, ◌+◌, ◌<◌, ◌≤◌, ℕ, IfOk, [], ◌∷◌, length};
+ghost use Rattle.std.specs.Prelude.{◌≡◌, ◌+◌, ◌<◌, ◌≤◌, ℕ, IsTrue, IfOk, [], ◌∷◌, length};
 ghost use Rattle.std.specs.Option.{SomeIff};
+ghost use Rattle.dsv_base.specs.Paths.{is_path};
 ghost use Rattle.node_table.specs.Tables.{cell_at};
 ghost use Rattle.rev_nodes.specs.Pushes.{first_revision};
 ghost use Rattle.rev_nodes.specs.Forests.{id_at, line_at, revision_at, repository_of, IsId, IsNodeOf};
@@ -9,14 +10,13 @@ ghost use Rattle.rev_nodes.specs.Commits.{IsSoundCommit, IsCommitOf, AreCommits}
 ghost use Rattle.rev_nodes.specs.SoundNodes.{AreSoundNodes};
 ghost use Rattle.rev_nodes.specs.Subtrees.{HaveEqualSubtrees};
 ghost use Rattle.rev_trees.specs.Readies.{IsReadyOn, IsUnchanged, Prepares, Pushes};
-ghost use Rattle.rev_trees.specs.Kept.{kept_at};
 
 use crate::next::next_revision;
 use crate::push_fault::PushFault;
 use crate::ready::Ready;
 use crate::revision::{KeptRevision, revision_of};
 use dsv_base::{Bytes, List, NoMemory, Path, Rev};
-use node_table::{Table, place_at};
+use node_table::Table;
 use rev_nodes::{Changed, Commit, Entry, Line, Node, NodeId};
 use std::alloc::Global;
 use std::marker::Model;
@@ -141,7 +141,7 @@ impl Trees {
         ensures { IfOk result (λ line. line ≡ line_at self.now rev path.now) }
     {
         let root = revision_of(self.revisions.as_slice(), rev.get() as usize).root;
-        self.table.line(root, path)
+        self.table.line(root, known(path))
     }
 
     /// The node at a path of a revision, by its number.
@@ -150,7 +150,7 @@ impl Trees {
         ensures { result ≡ id_at self.now rev path.now }
     {
         let root = revision_of(self.revisions.as_slice(), rev.get() as usize).root;
-        place_at(self.table.cells(), root, path)
+        self.table.look(root, known(path))
     }
 
     /// What stands in the node of this number, in byte order of the paths, and so of the names; nothing
@@ -239,6 +239,15 @@ fn first_revisions(
     let mut revisions = Vec::new(alloc);
     revisions.push(revision)?;
     Ok(revisions)
+}
+
+/// The path, of which is known that it is one.
+fn known(path: &Path) -> &Path
+    ensures same { result.now ≡ path.now }
+    ensures path { IsTrue (is_path path.now) }
+{
+    let _text = path.text();
+    path
 }
 
 /// The number of the first revision.

@@ -1,10 +1,13 @@
-ghost use Rattle.std.specs.Prelude.{◌≡◌, ◌≤◌, ◌+◌, ℕ, [], Some, length};
+ghost use Rattle.std.specs.Prelude.{◌≡◌, ◌≤◌, ◌+◌, ℕ, [], Some, IfOk, length};
+ghost use Rattle.std.specs.Option.{option_map};
+ghost use Rattle.node_table.specs.Ways.{names_in};
+ghost use Rattle.tree_edits.specs.Edits.{held};
 ghost use Rattle.node_table.specs.Steps.{IsSource};
 ghost use Rattle.tree_edits.specs.AreEdits.{AreEdits};
 ghost use Rattle.tree_edits.specs.Applied.{Applies};
 
-use dsv_base::Rev;
-use rev_nodes::{Cell, Change, NodeId, Unfit};
+use dsv_base::{NoMemory, Path, Rev};
+use rev_nodes::{Cell, Change, Kind, NodeId, Unfit};
 use std::alloc::Global;
 use std::marker::Model;
 
@@ -48,5 +51,13 @@ impl Edits {
     {
         let _root = self.root;
         Err(Unfit::NoMemory)
+    }
+
+    /// A stand-in.
+    pub fn kind_at(&self, _cells: &[Cell], _path: &Path) -> Result<Option<Kind>, NoMemory>
+        ensures { IfOk result (λ kind. kind ≡ option_map (λ here. here.node.kind) (held _cells.now self.now (names_in _path.now))) }
+    {
+        let _root = self.root;
+        Err(NoMemory)
     }
 }

@@ -1,4 +1,6 @@
-use Rattle.std.proofs.Common.{◌<◌, length, sym, subst, ◌∙◌, ap}
+use Rattle.std.proofs.Common.{◌≡◌, ◌<◌, Some, length, sym, subst, ◌∙◌, ap}
+use Rattle.node_table.specs.Ways.{names_in}
+use Rattle.node_table.specs.Tables.{reach}
 use Rattle.rev_trees.proofs.Viewed.{length-of}
 use Rattle.rev_trees.proofs.Learned.{look-of}
 use Rattle.rev_trees.proofs.trees.Trees.look.Goals as goal
@@ -6,13 +8,13 @@ use Rattle.rev_trees.proofs.trees.Trees.look.Goals as goal
 pub revision_of-requires : goal.revision_of-requires
 revision_of-requires c = let e = length-of _ _ _ _ _ _ _ c.self.view_is in rw (c.as_slice.ensures.value, c.get.ensures.value, ← e) c.requires
 
-pub place_at-requires-clause-within : goal.place_at-requires-clause-within
-place_at-requires-clause-within c =
+pub look-requires : goal.look-requires
+look-requires c =
     let below = subst (λ n. c.args.rev < n) (length-of _ _ _ _ _ _ _ c.self.view_is) c.requires in
-    rw (c.cells.ensures.cells, c.revision_of.ensures, c.as_slice.ensures.value, c.get.ensures.value) (c.self.invariant.kept c.args.rev below).within
+    rw (c.revision_of.ensures, c.as_slice.ensures.value, c.get.ensures.value) (c.self.invariant.kept c.args.rev below).within
 
 pub returns : goal.returns
 returns c =
     let below = subst (λ n. c.args.rev < n) (length-of _ _ _ _ _ _ _ c.self.view_is) c.requires in
-    (rw (c.cells.ensures.cells, c.revision_of.ensures, c.as_slice.ensures.value, c.get.ensures.value) at c.place_at.ensures.place)
-    ∙ look-of c.self.inside.name c.self.inside.uuid c.self.inside.table.cells c.self.inside.revisions.items _ _ c.args.self.now c.self.view_is c.self.invariant c.args.rev c.args.path.now below c.place_at.ensures.path
+    (rw (c.known.ensures.same, c.revision_of.ensures, c.as_slice.ensures.value, c.get.ensures.value) at c.look.ensures)
+    ∙ look-of c.self.inside.name c.self.inside.uuid c.self.inside.table.cells c.self.inside.revisions.items _ _ c.args.self.now c.self.view_is c.self.invariant c.args.rev c.args.path.now below c.known.ensures.path
