@@ -7,10 +7,11 @@ use Rattle.std.proofs.lemmas.List.{at_drop_more}
 use Rattle.rev_nodes.specs.declared.cell.Cell.{Cell}
 use Rattle.rev_nodes.specs.declared.change.Change.{Change}
 use Rattle.rev_nodes.specs.declared.change.Change.TheVariants.{Put, SetProp, DelProp, Mkdir, Delete, Copy}
+use Rattle.rev_nodes.specs.declared.commit.Commit.{Commit}
 use Rattle.rev_nodes.specs.declared.unfit.Unfit.{Unfit}
 use Rattle.rev_nodes.specs.declared.unfit.Unfit.TheVariants.{NoNode, IsRoot, Exists, NoParent, TooLong, NoMemory}
-use Rattle.rev_nodes.specs.Trees.{TreeNode, Tree, at, tree_at}
-use Rattle.rev_nodes.specs.Changes.{with_props, edited, placed, all_placed, copied, unfit, apply, apply_from, unless}
+use Rattle.rev_nodes.specs.Trees.{TreeNode, Tree, at, tree_at, new_dir}
+use Rattle.rev_nodes.specs.Changes.{with_text, with_prop, without_prop, with_props, edited, placed, all_placed, without, copied, unfit, apply, apply_from, unless}
 use Rattle.rev_nodes.specs.Fitting.{in_order, Fits}
 use Rattle.std.specs.Option.{option_map_or}
 use Rattle.dsv_base.specs.declared.prop.Prop.{Prop}
@@ -21,11 +22,14 @@ use Rattle.node_table.specs.Shown.{IsShown}
 use Rattle.node_table.specs.Steps.{AreSources, IsSource, IsFrom, HasSource}
 use Rattle.tree_edits.specs.Edits.{EditedTree, AreShown}
 use Rattle.tree_edits.specs.Applied.{Applies}
+use Rattle.tree_settling.specs.Settled.{IsSettled}
+use Rattle.rev_nodes.specs.ChangedPaths.{changed_paths}
 use Rattle.rev_trees.specs.declared.push_fault.PushFault.{PushFault}
 use Rattle.rev_trees.specs.declared.push_fault.PushFault.TheVariants as faults
 use Rattle.rev_trees.specs.declared.revision.KeptRevision.{KeptRevision}
-use Rattle.rev_trees.specs.Kept.{trees_in, kept_at, root_in, source_in, AreKept}
-use Rattle.rev_trees.specs.Made.{fault_of, AreDone, AppliesAll}
+use Rattle.rev_trees.specs.declared.next.NextRevision.{NextRevision}
+use Rattle.rev_trees.specs.Kept.{youngest, made_of, trees_in, kept_at, root_in, source_in, IsKept, AreKept}
+use Rattle.rev_trees.specs.Made.{fault_of, AreDone, AppliesAll, IsMade, Makes}
 use Rattle.rev_trees.proofs.Replay.{trees-length}
 
 -- ---- a change keeps a tree in order
@@ -40,12 +44,19 @@ sorted-edited edit path tree (Some found) h = sorted-placed path (with_props edi
 
 sorted-change : (change : Change) (trees : List Tree) (tree : Tree) (r : ℕ) → in_order tree ≡ true → in_order (apply change trees tree r) ≡ true
 unfolding apply
-sorted-change (Put path text) trees tree r h = sorted-marked r path _ ∙ sorted-placed path _ tree h
-sorted-change (SetProp path name value) trees tree r h = sorted-marked r path _ ∙ sorted-edited _ path tree (at path tree) h
-sorted-change (DelProp path name) trees tree r h = sorted-marked r path _ ∙ sorted-edited _ path tree (at path tree) h
-sorted-change (Mkdir path) trees tree r h = sorted-marked r path _ ∙ sorted-placed path _ tree h
-sorted-change (Delete path) trees tree r h = sorted-marked r path _ ∙ sorted-without path tree h
-sorted-change (Copy source rev path) trees tree r h = sorted-marked r path _ ∙ sorted-all _ tree h
+sorted-change (Put path text) trees tree r h =
+    sorted-marked r path (placed path (with_text r text (at path tree)) tree) ∙ sorted-placed path (with_text r text (at path tree)) tree h
+sorted-change (SetProp path name value) trees tree r h =
+    let edit = with_prop (record { name = name; value = value }) in
+    sorted-marked r path (edited edit path tree) ∙ sorted-edited edit path tree (at path tree) h
+sorted-change (DelProp path name) trees tree r h =
+    sorted-marked r path (edited (without_prop name) path tree) ∙ sorted-edited (without_prop name) path tree (at path tree) h
+sorted-change (Mkdir path) trees tree r h =
+    sorted-marked r path (placed path (new_dir r) tree) ∙ sorted-placed path (new_dir r) tree h
+sorted-change (Delete path) trees tree r h =
+    sorted-marked r path (without path tree) ∙ sorted-without path tree h
+sorted-change (Copy source rev path) trees tree r h =
+    sorted-marked r path (all_placed (copied source rev path r (tree_at trees rev)) tree) ∙ sorted-all (copied source rev path r (tree_at trees rev)) tree h
 
 -- ---- what copies are taken from
 
@@ -58,6 +69,12 @@ module _ (cells : List Cell) (rs : List KeptRevision) (kept : AreKept cells rs) 
     ];
     formed = λ rev h. (kept.kept rev (let n = trees-length rs in omega (arith, n, h))).shown.formed;
   }
+
+  -- what the youngest root shows
+  pub youngest_kept : IsKept cells (length rs - 1) (youngest (trees_in rs)) (kept_at rs (length rs - 1)).root (kept_at rs (length rs - 1)).commit
+  youngest_kept =
+      let some = kept.some in
+      subst (λ (n : ℕ). IsKept cells (length rs - 1) (tree_at (trees_in rs) (n - 1)) (kept_at rs (length rs - 1)).root (kept_at rs (length rs - 1)).commit) (sym (trees-length rs)) (kept.kept (length rs - 1) (omega (arith, some)))
 
   one_root : (a b : ℕ) → Some a ≡ Some b → a ≡ b
   one_root a b e = cc
@@ -142,3 +159,33 @@ all_applied r trees changes i index read cells edits past way = record {
   shown = way.shown;
   sorted = way.sorted;
 }
+
+-- ---- the next revision
+
+module _ (cells : List Cell) (rs : List KeptRevision) (rev : ℕ) (next : rev ≡ length rs) (commit : Commit) (changes : List Change) (changes_are : changes ≡ commit.changes) (edits : EditedTree) where
+  read_is : apply_from 0 changes (trees_in rs) (youngest (trees_in rs)) rev ≡ made_of (trees_in rs) commit
+  read_is = λ i. apply_from 0 (changes_are i) (trees_in rs) (youngest (trees_in rs)) ((next ∙ sym (trees-length rs)) i)
+
+  -- the first change that doesn't fit is that of the commit
+  pub fails : (fault : PushFault) → AppliesAll (apply_from 0 changes (trees_in rs) (youngest (trees_in rs)) rev) cells edits (Err fault) → Makes cells (trees_in rs) commit (Err fault)
+  fails (faults.Unfit index) h = (h.0, sym read_is ∙ h.1)
+  fails faults.FullRevisions h = absurd h
+  fails faults.NoMemory h = tt
+
+  -- what the edits come to is the next revision
+  pub makes : (kept : AreKept cells rs) → AreDone (apply_from 0 changes (trees_in rs) (youngest (trees_in rs)) rev) cells edits → length edits.touched ≤ 65 * length changes → (made : NextRevision) → made.revision.commit ≡ commit → IsSettled rev cells edits made.cells.items made.revision.root
+      → (root : ℕ) → root ≡ (kept_at rs (length rs - 1)).root → (named : List Change) → named ≡ commit.changes → ((before after : Tree) → IsShown cells root before → AreShown cells edits after → made.revision.changed ≡ changed_paths named before after) → IsMade cells (trees_in rs) commit made
+  makes kept done few made commit_is settled root root_is named named_are told = record {
+    commit_is = commit_is;
+    tree = done.tree;
+    tree_is = sym read_is ∙ done.is;
+    changed_is =
+        told (youngest (trees_in rs)) done.tree (subst (λ (n : ℕ). IsShown cells n (youngest (trees_in rs))) (sym root_is) (youngest_kept cells rs kept).shown) done.shown
+        ∙ ap (λ (cs : List Change). changed_paths cs (youngest (trees_in rs)) done.tree) named_are;
+    sound = settled.sound;
+    within = settled.within;
+    created = (let c = settled.created in let n = trees-length rs in omega (arith, c, n, next));
+    shown = record { shown = λ ns is. done.shown.shows ns is ∙ sym (settled.shows ns is); formed = done.shown.formed };
+    sorted = done.sorted;
+    few = (let s = settled.few in let n = ap (λ (cs : List Change). length cs) changes_are in omega (arith, s, few, n));
+  }

@@ -18,7 +18,8 @@ use Rattle.node_table.specs.Tables.{cell_at, reach}
 use Rattle.node_table.specs.Shown.{IsShown}
 use Rattle.node_table.proofs.Found.{found_as, none_at}
 use Rattle.node_table.proofs.PathNames.{names_of_path}
-use Rattle.tree_edits.specs.Edits.{Held, EditedTree, held, shown_node, AreShown}
+use Rattle.tree_edits.specs.declared.held.Held.{Held}
+use Rattle.tree_edits.specs.Edits.{EditedTree, held, shown_node, AreShown}
 use Rattle.rev_trees.specs.ChangedKinds.{kind_before, kind_after, kept_kind, changed_kind, row_between}
 
 abbrev kind_of : TreeNode → Kind

@@ -9,8 +9,8 @@ use Rattle.node_table.specs.Tables.{Spot, cell_at, child_in, spot_in, walk, node
 use Rattle.node_table.specs.Rebuilt.{root_spot}
 use Rattle.node_table.specs.Shown.{IsShown}
 use Rattle.node_table.proofs.Growing.{walk_none}
-use Rattle.tree_edits.specs.Edits.{Held, EditedTree, held_in, held_from, shown_node, shown, AreShown}
-use Rattle.tree_edits.specs.AreEdits.{AreEdits}
+use Rattle.tree_edits.specs.declared.held.Held.{Held}
+use Rattle.tree_edits.specs.Edits.{EditedTree, held_in, held_from, shown_node, shown, AreShown}
 
 -- no edits, over the tree of a root
 abbrev pub untouched : ℕ → EditedTree
@@ -45,16 +45,4 @@ pub shows_tree : (cells : List Cell) (root : ℕ) (tree : Tree) (edits : EditedT
 shows_tree cells root tree edits is s = subst (λ (e : EditedTree). AreShown cells e tree) (sym is) (record {
   shows = λ ns named. s.shown ns named ∙ sym (untouched_shown cells root ns);
   formed = s.formed;
-})
-
-pub are_none : (rev : ℕ) (cells : List Cell) (root : ℕ) (edits : EditedTree) → edits ≡ untouched root → IsSound cells → root < length cells → (cell_at cells root).node.created ≤ rev → AreEdits rev cells edits
-are_none rev cells root edits is sound within young = subst (λ (e : EditedTree). AreEdits rev cells e) (sym is) (record {
-  sound = sound;
-  within = within;
-  young = young;
-  touched = record {
-    sorted = refl;
-    placed = λ path edit e. absurd (cc e);
-    held = λ path here e. absurd (cc e);
-  };
 })

@@ -36,7 +36,14 @@ pub fn next_revision(
 {
     let before = youngest_root(revisions);
     let mut edits = Edits::on(alloc, before);
-    apply_all(alloc, &mut edits, cells, revisions, commit.changes.get(), rev)?;
+    apply_all(
+        alloc,
+        &mut edits,
+        cells,
+        revisions,
+        commit.changes.get(),
+        rev,
+    )?;
     let (more, root) = settle(alloc, cells, &edits, rev)?;
     let changed = changed_paths(alloc, commit.changes.get(), cells, before, &edits)?;
     Ok(NextRevision {
