@@ -72,7 +72,7 @@ names-from : (i : ℕ) (changes : List Change) (table : ChangeTable) → map nam
 names-from i [] table = refl
 names-from i (change ∷ changes) table = names-from (i + 1) changes (noted_in i change table) ∙ ap (named_from changes) (names-put (path_of change) (noted i change (last_at (path_of change) table)) table)
 
-abbrev has_key : List ℕ × LastChanges → Bool
+abbrev pub has_key : List ℕ × LastChanges → Bool
 has_key e = is_path e.0
 
 keys-put : (path : List ℕ) (last : LastChanges) (table : ChangeTable) → is_path path ≡ true → list_all has_key table ≡ true → list_all has_key (put (slice_cmp nat_cmp) path last table) ≡ true
@@ -120,6 +120,10 @@ fast_is = λ changes before after all.
 all_from : (changes : List Change) → list_all has_named_path changes ≡ true → All HasPath changes
 all_from [] h = All-nil HasPath
 all_from (change ∷ changes) h = let p = and_parts (has_named_path change) (list_all has_named_path changes) h in All-cons HasPath change changes p.0 (all_from changes p.1)
+
+-- the table of changes whose paths are paths has such paths alone
+pub keys_of_changes : (changes : List Change) → list_all has_named_path changes ≡ true → list_all has_key (noted_from 0 changes []) ≡ true
+keys_of_changes changes paths = keys-from 0 changes [] (all_from changes paths) refl
 
 opened : (changes : List Change) (before after : Tree) → filter_map (changed_in (noted_from 0 changes []) before after) (noted_from 0 changes []) ≡ changed_by_table changes before after
 unfolding changed_by_table

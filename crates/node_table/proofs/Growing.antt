@@ -1,16 +1,16 @@
 -- What a growing table shows stays as it was.
-use Rattle.std.proofs.Common.{◌≡◌, ℕ, zero, suc, ◌+◌, ◌<◌, ◌≤◌, Bool, true, false, List, [], ◌∷◌, ◌++◌, Option, None, Some, length, map, take, refl, sym, ap, subst, ◌∙◌, arith, inl, inr, length-append}
-use Rattle.std.specs.Prelude.{IsTrue, nat_le}
-use Rattle.std.specs.Option.{option_map, option_and_then}
+use Rattle.std.proofs.Common.{◌≡◌, ℕ, zero, suc, ◌<◌, ◌≤◌, false, List, [], ◌∷◌, ◌++◌, Option, None, Some, length, get_or, refl, sym, ap, subst, ◌∙◌, arith, inl, inr, length-append}
+use Rattle.std.specs.Prelude.{IsTrue}
+use Rattle.std.specs.Option.{option_map}
 use Rattle.std.proofs.lemmas.Bool.{cases_lt}
+use Rattle.rev_nodes.specs.declared.entry.Entry.{Entry}
 use Rattle.rev_nodes.specs.declared.line.Line.{Line}
 use Rattle.rev_nodes.specs.Trees.{TreeNode, is_dir_kind}
-use Rattle.std.specs.FinMap.{is_sorted}
-use Rattle.std.specs.Ordering.{nat_cmp}
-use Rattle.std.specs.Cmp.Lexicographic.{slice_cmp}
-use Rattle.node_table.specs.declared.cell.Cell.{Cell}
+use Rattle.rev_nodes.specs.declared.cell.Cell.{Cell}
 use Rattle.node_table.specs.Ways.{Name}
-use Rattle.node_table.specs.Tables.{pair, cell_at, no_cell, child, child_in, reach, Spot, spot_in, below_line, step, walk, node_at, seen, IsChild, IsCell, IsSound}
+use Rattle.node_table.specs.Heights.{height_below, higher}
+use Rattle.node_table.specs.Tables.{are_in_order, height_over, cell_at, no_cell, child, child_in, reach, Spot, spot_in, below_line, step, walk, node_at, seen, IsCell, IsSound}
+use Rattle.node_table.proofs.EntriesFound.{own_entry}
 
 pub cell_at-kept : (cells more : List Cell) (id : ℕ) → id < length cells → cell_at (cells ++ more) id ≡ cell_at cells id
 cell_at-kept [] more id h = absurd (omega (arith, h))
@@ -25,6 +25,13 @@ pub cell_at-past : (cells : List Cell) (id : ℕ) → length cells ≤ id → ce
 cell_at-past [] id h = refl
 cell_at-past (x ∷ cells) zero h = absurd (omega (arith, h))
 cell_at-past (x ∷ cells) (suc id) h = cell_at-past cells id (omega (arith, h))
+
+pub height_over-kept : (cells more : List Cell) (entries : List Entry) → ((k : ℕ) (d : Entry) → k < length entries → (get_or entries k d).id < length cells) → height_over (cells ++ more) entries ≡ height_over cells entries
+height_over-kept cells more [] within = refl
+height_over-kept cells more (e ∷ es) within =
+    let here : e.id < length cells = within 0 e (omega arith) in
+    let rest = height_over-kept cells more es (λ k d less. within (suc k) d (omega (arith, less))) in
+    λ i. higher (height_below e.name (cell_at-kept cells more e.id here i).height) (rest i)
 
 pub walk_none : (cells : List Cell) (ns : List Name) → walk cells None ns ≡ None
 walk_none cells [] = refl
@@ -57,7 +64,7 @@ module _ (cells : List Cell) (sound : IsSound cells) where
       by (Some j) f g go = go j (child_within n id j h f) g
 
   module _ (more : List Cell) where
-    child_in-kept : (n : Name) (id : ℕ) → id < length cells → child_in (cells ++ more) n id ≡ child_in cells n id
+    pub child_in-kept : (n : Name) (id : ℕ) → id < length cells → child_in (cells ++ more) n id ≡ child_in cells n id
     child_in-kept n id h = ap (λ (c : Cell). child n c.entries) (cell_at-kept cells more id h)
 
     pub spot_in-kept : (line : Line) (n : Name) (i : ℕ) → i < length cells → spot_in (cells ++ more) line n i ≡ spot_in cells line n i
@@ -84,9 +91,9 @@ module _ (cells : List Cell) (sound : IsSound cells) where
             let w = child_within n spot.id j h f in
             ap (λ (s : Spot). seen (cells ++ more) (Some s) ns) (spot_in-kept spot.line n j w) ∙ go (spot_in cells spot.line n j) w
 
-    cell_kept : (id : ℕ) → id < length cells → IsCell cells id → IsCell (cells ++ more) id
+    pub cell_kept : (id : ℕ) → id < length cells → IsCell cells id → IsCell (cells ++ more) id
     cell_kept id h c = record {
-      sorted = subst (λ (x : Cell). IsTrue (is_sorted (slice_cmp nat_cmp) (map pair x.entries))) (sym (cell_at-kept cells more id h)) c.sorted;
+      sorted = subst (λ (x : Cell). IsTrue (are_in_order x.entries)) (sym (cell_at-kept cells more id h)) c.sorted;
       children = λ n i e.
           let old = c.children n i (sym (child_in-kept n id h) ∙ e) in
           record {
@@ -97,14 +104,17 @@ module _ (cells : List Cell) (sound : IsSound cells) where
           };
       file = subst (λ (x : Cell). is_dir_kind x.node.kind ≡ false → x.entries ≡ []) (sym (cell_at-kept cells more id h)) c.file;
       since = subst (λ (x : Cell). x.line.since ≤ x.node.created) (sym (cell_at-kept cells more id h)) c.since;
+      height = subst (λ (x : Cell). x.height ≡ height_over (cells ++ more) x.entries) (sym (cell_at-kept cells more id h)) (c.height ∙ sym (height_over-kept cells more (cell_at cells id).entries (λ k d less.
+          let low = (c.children _ _ (own_entry (cell_at cells id).entries c.sorted k d less)).lower in omega (arith, low, h))));
     }
 
 pub no_cell_sound : (cells : List Cell) (id : ℕ) → cell_at cells id ≡ no_cell → IsCell cells id
 no_cell_sound cells id e = record {
-  sorted = subst (λ (x : Cell). IsTrue (is_sorted (slice_cmp nat_cmp) (map pair x.entries))) (sym e) refl;
+  sorted = subst (λ (x : Cell). IsTrue (are_in_order x.entries)) (sym e) refl;
   children = λ n i f. absurd (let g = sym (ap (λ (x : Cell). child n x.entries) e) ∙ f in cc g);
   file = λ k. ap (λ (x : Cell). x.entries) e;
   since = subst (λ (x : Cell). x.line.since ≤ x.node.created) (sym e) (omega arith);
+  height = subst (λ (x : Cell). x.height ≡ height_over cells x.entries) (sym e) refl;
 }
 
 -- one cell more that is so
@@ -117,10 +127,11 @@ sound-more cells cell sound new id = elim (cases_lt id (length cells)) [
   ]
 ]
 
-take_front : (cells more : List Cell) → take (length cells) (cells ++ more) ≡ cells
-take_front [] more = refl
-take_front (x ∷ cells) more = ap (λ xs. x ∷ xs) (take_front cells more)
-
--- what was added is taken away again
-pub taken_back : (cells new more : List Cell) (count : ℕ) → new ≡ cells ++ more → count ≡ length cells → take count new ≡ cells
-taken_back cells new more count new_is count_is = ap (λ n. take n new) count_is ∙ ap (take (length cells)) new_is ∙ take_front cells more
+-- what names lead to was made no later
+pub younger : (cells : List Cell) → IsSound cells → (ns : List Name) (id i : ℕ) → reach cells (Some id) ns ≡ Some i → (cell_at cells i).node.created ≤ (cell_at cells id).node.created
+younger cells sound [] id i e = subst (λ k. (cell_at cells k).node.created ≤ (cell_at cells id).node.created) (let s : id ≡ i = cc in s) (omega arith)
+younger cells sound (n ∷ ns) id i e = by (child_in cells n id) refl e (λ j f. younger cells sound ns j i f)
+  where
+    by : (o : Option ℕ) → child_in cells n id ≡ o → reach cells o ns ≡ Some i → ((j : ℕ) → reach cells (Some j) ns ≡ Some i → (cell_at cells i).node.created ≤ (cell_at cells j).node.created) → (cell_at cells i).node.created ≤ (cell_at cells id).node.created
+    by None f g go = absurd (let w = sym (reach_none cells ns) ∙ g in cc w)
+    by (Some j) f g go = let a = go j g in let b = ((sound id).children n j f).older in omega (arith, a, b)

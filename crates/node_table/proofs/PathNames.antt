@@ -1,14 +1,11 @@
 -- A path is what its names lead to.
-use Rattle.std.proofs.Common.{Option, Some, ◌≡◌, ℕ, suc, ◌≤◌, ◌+◌, Bool, true, false, ◌||◌, List, [], ◌∷◌, ◌++◌, length, nat_eq, nat_le, refl, sym, ap, ◌∙◌, arith}
-use Rattle.std.specs.List.{slice_split, onto_first, list_all}
+use Rattle.std.proofs.Common.{◌≡◌, ℕ, ◌≤◌, Bool, true, false, ◌||◌, List, [], ◌∷◌, length, nat_eq, nat_le, refl, sym, ap, ◌∙◌, arith}
+use Rattle.std.specs.List.{onto_first, list_all}
 use Rattle.std.proofs.lemmas.Bool.{and_parts, eqb-true, leb-true}
 use Rattle.std.proofs.lemmas.Bool.Decides.{nat_tests}
 use Rattle.std.proofs.lemmas.List.Splits.{slice_split-cons_yes, slice_split-cons_no}
 use Rattle.dsv_base.specs.Paths.{is_path, is_slash, is_component, is_below_root, components, root_text}
 use Rattle.node_table.specs.Ways.{Name, are_names, path_at, names_in}
-use Rattle.node_table.specs.declared.cell.Cell.{Cell}
-use Rattle.node_table.specs.Tables.{child_in}
-use Rattle.node_table.specs.Rebuilt.{has_way}
 use Rattle.node_table.proofs.Fronts.{joined, path-joined}
 
 pub record IsSplit (text : List ℕ) : Type 0 where
@@ -24,7 +21,7 @@ split_some (b ∷ bs) = by (is_slash b) refl (split_some bs)
     by true t s = record { first = []; rest = components bs; is = slice_split-cons_yes is_slash b bs t }
     by false t s = record { first = b ∷ s.first; rest = s.rest; is = slice_split-cons_no is_slash b bs t ∙ ap (onto_first b) s.is }
 
-onto-joined : (b : ℕ) (n : Name) (ns : List Name) → joined ((b ∷ n) ∷ ns) ≡ b ∷ joined (n ∷ ns)
+pub onto-joined : (b : ℕ) (n : Name) (ns : List Name) → joined ((b ∷ n) ∷ ns) ≡ b ∷ joined (n ∷ ns)
 onto-joined b n [] = refl
 onto-joined b n (m ∷ ms) = refl
 
@@ -68,7 +65,3 @@ names_of_path (b ∷ c ∷ rest) h =
 
     at_names : (text : List ℕ) → IsSplit text → are_names (components text) ≡ true → path_at root_text (components text) ≡ 47 ∷ text
     at_names text s named = ap (path_at root_text) s.is ∙ path-joined root_text s.first s.rest (ap are_names (sym s.is) ∙ named) ∙ ap (λ ns. 47 ∷ joined ns) (sym s.is) ∙ ap (λ r. 47 ∷ r) (joined-split text)
-
--- a way goes on from what is found at its first name
-pub way_of : (cells : List Cell) (id : ℕ) (q : Name) (way : List Name) (after : List ℕ) (o : Option ℕ) → way ≡ q ∷ components after → o ≡ child_in cells q id → has_way cells (Some id) way ≡ has_way cells o (components after)
-way_of cells id q way after o cut found = let s = split_some after in ap (has_way cells (Some id)) cut ∙ ap (λ a. has_way cells (Some id) (q ∷ a)) s.is ∙ ap (λ x. has_way cells x (s.first ∷ s.rest)) (sym found) ∙ ap (has_way cells o) (sym s.is)

@@ -1,6 +1,6 @@
 -- How long the ways below a number are.
 use Rattle.std.specs.Prelude.{ℕ, suc, ◌≡◌, ◌-◌, nat_le, Bool, true, false, ◌&&◌, List, [], ◌∷◌, Some, length}
-use Rattle.node_table.specs.declared.cell.Cell.{Cell}
+use Rattle.rev_nodes.specs.declared.cell.Cell.{Cell}
 use Rattle.node_table.specs.Ways.{Name}
 use Rattle.node_table.specs.Tables.{reach}
 

@@ -1,22 +1,19 @@
-//! One growing table of nodes that the trees of a repository share.
+//! One growing table of nodes that the trees of a repository share, and what is read of it.
 #![tactic(auto)]
 
-mod cell;
-mod changing;
-mod copies;
-mod copying;
-mod directories;
-mod entry_lists;
-mod hanging;
-mod limits;
+mod depths;
+mod heights;
+mod lines;
 mod names;
 mod new_cells;
-mod node_props;
 mod places;
-mod props;
-mod puts;
 mod reading;
-mod rebuilding;
 mod table;
 
+pub use depths::depth;
+pub use heights::{fits_below, height_of, height_with};
+pub use lines::line_at;
+pub use names::first_name;
+pub use places::{below_root, place_at};
+pub use reading::{cell_of, child_at};
 pub use table::Table;

@@ -5,6 +5,7 @@ use Rattle.std.specs.Option.{option_map}
 use Rattle.std.specs.FinMap.{find}
 use Rattle.std.specs.Ordering.{nat_cmp}
 use Rattle.std.specs.Cmp.Lexicographic.{slice_cmp}
+use Rattle.rev_nodes.specs.declared.cell.Cell.{Cell}
 use Rattle.rev_nodes.specs.declared.changed.Changed.{Changed}
 use Rattle.rev_nodes.specs.declared.commit.Commit.{Commit}
 use Rattle.rev_nodes.specs.declared.line.Line.{Line}
@@ -22,12 +23,14 @@ pub record ForestRevision : Type 0 where
   pub changed : List Changed
   pub places : List (List ℕ × Numbered)
 
--- the trees of a repository as they are read; `room` revisions can be pushed before memory is taken
+-- the trees of a repository as they are read, and all nodes that were ever made, by number; `room` revisions and `node_room` nodes can be pushed before memory is taken
 pub record Forest : Type 0 where
   pub name : List ℕ
   pub uuid : List ℕ
   pub revisions : List ForestRevision
+  pub nodes : List Cell
   pub room : ℕ
+  pub node_room : ℕ
 
 -- the tree of a revision's places, without the numbers
 abbrev pub tree_of : List (List ℕ × Numbered) → Tree

@@ -1,10 +1,12 @@
 //! Nodes, changes and commits of a repository as plain values, with all that is said of trees as flat lists.
 #![tactic(auto)]
 
+mod cell;
 mod change;
 mod changed;
 mod commit;
 mod entry;
+mod height;
 mod kind;
 mod line;
 mod mark;
@@ -13,10 +15,12 @@ mod node_id;
 mod property_name;
 mod unfit;
 
+pub use cell::Cell;
 pub use change::Change;
 pub use changed::Changed;
 pub use commit::Commit;
 pub use entry::Entry;
+pub use height::Height;
 pub use kind::Kind;
 pub use line::Line;
 pub use mark::Mark;

@@ -1,220 +1,224 @@
--- Pushing a revision, as the kept revisions do it.
-use Rattle.std.proofs.Common.{◌≡◌, ℕ, zero, suc, ◌+◌, ◌-◌, ◌≤◌, ◌<◌, true, List, [], ◌∷◌, ◌++◌, Result, Ok, Err, length, map, refl, sym, ap, subst, ◌∙◌, arith}
-use Rattle.dsv_base.specs.Gives.{◌>>=◌}
+-- Pushing a revision, as the table and the kept revisions do it.
+use Rattle.std.proofs.Common.{◌≡◌, ℕ, zero, suc, ◌+◌, ◌*◌, ◌-◌, ◌≤◌, ◌<◌, true, List, [], ◌∷◌, ◌++◌, Result, Ok, Err, length, map, Some, refl, sym, ap, subst, ◌∙◌, inl, inr, arith, length-append}
+use Rattle.std.specs.List.{list_all, All}
+use Rattle.std.proofs.lemmas.Bool.{cases_lt}
+use Rattle.std.proofs.lemmas.List.Elements.{All-nil}
+use Rattle.rev_nodes.specs.declared.cell.Cell.{Cell}
+use Rattle.rev_nodes.specs.declared.changed.Changed.{Changed}
 use Rattle.rev_nodes.specs.declared.commit.Commit.{Commit}
-use Rattle.rev_trees.specs.declared.place.Place.{Place}
-use Rattle.rev_trees.specs.declared.push_fault.PushFault.{PushFault}
-use Rattle.rev_trees.specs.declared.push_fault.PushFault.TheVariants as faults
-use Rattle.rev_trees.specs.declared.revision.FlatRevision.{FlatRevision}
-use Rattle.rev_nodes.specs.declared.unfit.Unfit.{Unfit}
-use Rattle.rev_nodes.specs.Trees.{Tree, Revision, tree_at}
+use Rattle.rev_nodes.specs.Trees.{Tree, tree_at}
 use Rattle.rev_nodes.specs.Changes.{apply_from}
 use Rattle.rev_nodes.specs.ChangedPaths.{changed_paths}
-use Rattle.rev_nodes.specs.Pushes.{trees_of, youngest_tree, tree_after, revision_of, pushed}
-use Rattle.rev_nodes.specs.Forests.{ForestRevision, Forest, tree_of, without_numbers}
-use Rattle.rev_trees.specs.Readies.{ReadyRevision, IsReadyOn, IsUnchanged, IsNext, Prepares, Pushes, revisions_of}
-use Rattle.rev_trees.specs.Flat.{node_of, tree_in}
-use Rattle.rev_trees.specs.Kept.{lists_in, commit_in, numbered_revision, revisions_from, forest_of, places_in, trees_in, ready_of, IsFlat, IsReady, AreKept}
-use Rattle.rev_trees.specs.Numbers.{numbered_from}
-use Rattle.rev_trees.specs.Listed.{IsListed}
-use Rattle.rev_nodes.specs.Formed.{IsFormed}
-use Rattle.rev_trees.specs.Made.{youngest_in, tree_made, IsMade, Makes}
-use Rattle.rev_trees.proofs.Numbering.{length-of}
-use Rattle.rev_trees.proofs.Steps.{source_tree}
-use Rattle.rev_trees.proofs.FormedStep.{length-trees}
 use Rattle.rev_nodes.specs.Commits.{comes_from_below, IsSoundCommit, IsCommitOf}
+use Rattle.rev_nodes.specs.Forests.{ForestRevision, Forest, tree_of, without_numbers}
+use Rattle.rev_nodes.specs.Pushes.{tree_after}
 use Rattle.rev_nodes.specs.SoundNodes.{HasSoundNode}
+use Rattle.rev_nodes.proofs.Forming.{past_end}
 use Rattle.rev_nodes.proofs.NodesSound.{later_nodes, sound_changes, sources_below}
-use Rattle.std.specs.List.{list_all, All}
-use Rattle.std.proofs.lemmas.List.Elements.{All-nil}
+use Rattle.node_table.specs.Ways.{Name}
+use Rattle.node_table.specs.Tables.{Spot, cell_at, seen, IsSound}
+use Rattle.node_table.specs.Rebuilt.{root_spot}
+use Rattle.node_table.specs.Shown.{IsShown}
+use Rattle.node_table.proofs.Growing.{cell_at-kept, seen-kept}
+use Rattle.node_table.proofs.Numbers.{tree-numbered}
+use Rattle.rev_trees.specs.declared.push_fault.PushFault.{PushFault}
+use Rattle.rev_trees.specs.declared.push_fault.PushFault.TheVariants as faults
+use Rattle.rev_trees.specs.declared.revision.KeptRevision.{KeptRevision}
+use Rattle.rev_trees.specs.declared.next.NextRevision.{NextRevision}
+use Rattle.rev_trees.specs.Readies.{ReadyRevision, IsReadyOn, IsNext, Prepares, Pushes, revisions_of}
+use Rattle.rev_trees.specs.Kept.{tree_or_none, youngest, made_of, after, trees_in, revision_in, revisions_in, forest_of, kept_at, IsKept, AreKept, tree_made, ready_of, IsReady}
+use Rattle.rev_trees.specs.Made.{IsMade, Makes}
+use Rattle.rev_trees.proofs.Replay.{trees-push, trees-length, length-push, tree_at-push, tree_at-last, kept_at-push, kept_at-last}
+use Rattle.rev_trees.proofs.Viewed.{in-push, in-kept, length-of, nodes-of, room-of, node_room-of, youngest-is, after-is}
 
-pub tree_of-numbered : (rev from : ℕ) (places : List Place) → tree_of (numbered_from rev from places) ≡ tree_in places
-tree_of-numbered rev from [] = refl
-tree_of-numbered rev from (p ∷ ps) = ap (λ (tree : Tree). (p.path, node_of p) ∷ tree) (tree_of-numbered rev (from + 1) ps)
+-- ---- a longer table shows the same
 
-trees-from : (from : ℕ) (rs : List FlatRevision) → trees_of (map without_numbers (revisions_from from rs)) ≡ trees_in rs
-trees-from from [] = refl
-trees-from from (r ∷ rs) = λ i. tree_of-numbered from 0 r.places i ∷ trees-from (from + 1) rs i
+module _ (cells more : List Cell) (sound : IsSound cells) where
+  shown_more : (root : ℕ) (tree : Tree) → root < length cells → IsShown cells root tree → IsShown (cells ++ more) root tree
+  shown_more root tree within s = record {
+    shown = λ ns named. s.shown ns named ∙ sym (same ns);
+    formed = s.formed;
+  }
+    where
+      same : (ns : List Name) → seen (cells ++ more) (Some (root_spot (cells ++ more) root)) ns ≡ seen cells (Some (root_spot cells root)) ns
+      same ns =
+          ap (λ (c : Cell). let s : Spot = record { id = root; line = c.line } in seen (cells ++ more) (Some s) ns) (cell_at-kept cells more root within)
+          ∙ seen-kept cells sound more ns (root_spot cells root) within
 
-count-from : (from : ℕ) (rs : List FlatRevision) → length (map without_numbers (revisions_from from rs)) ≡ length rs
-count-from from [] = refl
-count-from from (r ∷ rs) = ap suc (count-from (from + 1) rs)
-
-youngest-from : (rs : List FlatRevision) → youngest_tree (map without_numbers (revisions_from 0 rs)) ≡ youngest_in rs
-youngest-from rs =
-    (λ i. tree_at (trees-from 0 rs i) (count-from 0 rs i - 1)) ∙ source_tree rs (length rs - 1)
-
-after-from : (rs : List FlatRevision) (commit : Commit) → tree_after (map without_numbers (revisions_from 0 rs)) commit ≡ tree_made rs commit
-after-from rs commit = λ i. apply_from 0 commit.changes (trees-from 0 rs i) (youngest-from rs i) (count-from 0 rs i)
-
-module _ (name uuid : List ℕ) (room : ℕ) (rs : List FlatRevision) (forest : Forest) (is : forest_of name uuid rs room ≡ forest) where
-  after-is : (commit : Commit) → tree_after (revisions_of forest) commit ≡ tree_made rs commit
-  after-is commit = ap (λ (f : Forest). tree_after (revisions_of f) commit) (sym is) ∙ after-from rs commit
-
-  youngest-is : youngest_tree (revisions_of forest) ≡ youngest_in rs
-  youngest-is = ap (λ (f : Forest). youngest_tree (revisions_of f)) (sym is) ∙ youngest-from rs
-
-  -- what was made is the next revision
-  pub is_next : (commit : Commit) (base : List FlatRevision) (revision : FlatRevision) (ready : ReadyRevision) → IsMade rs commit revision → ready ≡ ready_of base revision → IsNext (revisions_of forest) commit ready
-  is_next commit base revision ready made as_made = subst (λ (r : ReadyRevision). IsNext (revisions_of forest) commit r) (sym as_made) (record {
-    commit_is = made.commit_is;
-    tree_is = after-is commit ∙ made.tree_is;
-    changed_is = made.changed_is ∙ ap (λ (before : Tree). changed_paths commit.changes before (tree_in revision.places)) (sym youngest-is);
-  })
-
-  pub not_next : (commit : Commit) (new : Forest) (fault : PushFault) → length forest.revisions ≤ 2000000000 → Makes rs commit (Err fault) → Prepares commit forest new (Err fault)
-  not_next commit new (faults.Unfit index) few h = (few, h.0, after-is commit ∙ h.1)
-  not_next commit new faults.FullRevisions few h = absurd h
-  not_next commit new faults.NoMemory few h = few
-
-revisions-push : (from : ℕ) (rs : List FlatRevision) (r : FlatRevision) → revisions_from from (rs ++ r ∷ []) ≡ revisions_from from rs ++ numbered_revision (from + length rs) r ∷ []
-revisions-push from [] r = let e : from ≡ from + 0 = omega arith in ap (λ (n : ℕ). numbered_revision n r ∷ []) e
-revisions-push from (q ∷ rs) r =
-    let e : (from + 1) + length rs ≡ from + suc (length rs) = omega arith in
-    ap (λ (others : List ForestRevision). numbered_revision from q ∷ others) (revisions-push (from + 1) rs r ∙ ap (λ (n : ℕ). revisions_from (from + 1) rs ++ numbered_revision n r ∷ []) e)
-
-flat-push : (rs : List FlatRevision) (r : FlatRevision) → ((rev : ℕ) → IsFlat (places_in rs rev)) → IsFlat r.places → (rev : ℕ) → IsFlat (places_in (rs ++ r ∷ []) rev)
-flat-push [] r h flat zero = flat
-flat-push [] r h flat (suc rev) = record { short = omega arith; sorted = refl }
-flat-push (q ∷ rs) r h flat zero = h 0
-flat-push (q ∷ rs) r h flat (suc rev) = flat-push rs r (λ n. h (suc n)) flat rev
-
-formed-push : (rs : List FlatRevision) (r : FlatRevision) → ((rev : ℕ) → rev < length rs → IsFormed (tree_in (places_in rs rev))) → IsFormed (tree_in r.places) → (rev : ℕ) → rev < length rs + 1 → IsFormed (tree_in (places_in (rs ++ r ∷ []) rev))
-formed-push [] r h formed zero within = formed
-formed-push [] r h formed (suc rev) within = absurd (omega arith)
-formed-push (q ∷ rs) r h formed zero within = h 0 (omega arith)
-formed-push (q ∷ rs) r h formed (suc rev) within = formed-push rs r (λ n less. h (suc n) (omega arith)) formed rev (omega arith)
-
-nodes-push : (from : ℕ) (rs : List FlatRevision) (r : FlatRevision) → ((rev : ℕ) → All (HasSoundNode (from + rev)) (tree_in (places_in rs rev))) → All (HasSoundNode (from + length rs)) (tree_in r.places) → (rev : ℕ) → All (HasSoundNode (from + rev)) (tree_in (places_in (rs ++ r ∷ []) rev))
-nodes-push from [] r h nodes zero = nodes
-nodes-push from [] r h nodes (suc rev) = All-nil (HasSoundNode (from + suc rev))
-nodes-push from (q ∷ rs) r h nodes zero = h 0
-nodes-push from (q ∷ rs) r h nodes (suc rev) =
-    let back : (from + 1) + rev ≡ from + suc rev = omega arith in
-    let last : from + suc (length rs) ≡ (from + 1) + length rs = omega arith in
-    subst (λ (n : ℕ). All (HasSoundNode n) (tree_in (places_in (rs ++ r ∷ []) rev))) back
-    (nodes-push (from + 1) rs r (λ n. let there : from + suc n ≡ (from + 1) + n = omega arith in subst (λ (m : ℕ). All (HasSoundNode m) (tree_in (places_in rs n))) there (h (suc n))) (subst (λ (m : ℕ). All (HasSoundNode m) (tree_in r.places)) last nodes) rev)
-
-nodes-more : (rs : List FlatRevision) (number : ℕ) (r : FlatRevision) → ((rev : ℕ) → All (HasSoundNode rev) (tree_in (places_in rs rev))) → All (HasSoundNode number) (tree_in r.places) → number ≡ length rs → (rev : ℕ) → All (HasSoundNode rev) (tree_in (places_in (rs ++ r ∷ []) rev))
-nodes-more rs number r nodes new next rev =
-    let begin : (n : ℕ) → n ≡ 0 + n = λ n. omega arith in
-    subst (λ (n : ℕ). All (HasSoundNode n) (tree_in (places_in (rs ++ r ∷ []) rev))) (sym (begin rev))
-    (nodes-push 0 rs r (λ n. subst (λ (m : ℕ). All (HasSoundNode m) (tree_in (places_in rs n))) (begin n) (nodes n)) (subst (λ (m : ℕ). All (HasSoundNode m) (tree_in r.places)) (next ∙ begin (length rs)) new) rev)
-
-commits-push : (from : ℕ) (rs : List FlatRevision) (r : FlatRevision) → ((rev : ℕ) → rev < length rs → IsCommitOf (from + rev) (commit_in rs rev)) → IsCommitOf (from + length rs) r.commit → (rev : ℕ) → rev < length rs + 1 → IsCommitOf (from + rev) (commit_in (rs ++ r ∷ []) rev)
-commits-push from [] r h commit zero within = commit
-commits-push from [] r h commit (suc rev) within = absurd (omega arith)
-commits-push from (q ∷ rs) r h commit zero within = h 0 (omega arith)
-commits-push from (q ∷ rs) r h commit (suc rev) within =
-    let back : (from + 1) + rev ≡ from + suc rev = omega arith in
-    let last : from + suc (length rs) ≡ (from + 1) + length rs = omega arith in
-    subst (λ (n : ℕ). IsCommitOf n (commit_in (rs ++ r ∷ []) rev)) back
-    (commits-push (from + 1) rs r (λ n less. let there : from + suc n ≡ (from + 1) + n = omega arith in subst (λ (m : ℕ). IsCommitOf m (commit_in rs n)) there (h (suc n) (omega arith))) (subst (λ (m : ℕ). IsCommitOf m r.commit) last commit) rev (omega arith))
-
-commits-more : (rs : List FlatRevision) (number : ℕ) (r : FlatRevision) → ((rev : ℕ) → rev < length rs → IsCommitOf rev (commit_in rs rev)) → IsCommitOf number r.commit → number ≡ length rs → (rev : ℕ) → rev < length rs + 1 → IsCommitOf rev (commit_in (rs ++ r ∷ []) rev)
-commits-more rs number r commits new next rev within =
-    let begin : (n : ℕ) → n ≡ 0 + n = λ n. omega arith in
-    subst (λ (n : ℕ). IsCommitOf n (commit_in (rs ++ r ∷ []) rev)) (sym (begin rev))
-    (commits-push 0 rs r (λ n less. subst (λ (m : ℕ). IsCommitOf m (commit_in rs n)) (begin n) (commits n less)) (subst (λ (m : ℕ). IsCommitOf m r.commit) (next ∙ begin (length rs)) new) rev within)
-
-pub none_listed : (rev : ℕ) → IsListed rev [] []
-none_listed rev = record { many = refl; each = λ index d h. absurd (omega arith); paths = λ index d h. absurd (omega arith) }
-
-listed-push : (from : ℕ) (rs : List FlatRevision) (r : FlatRevision) → ((rev : ℕ) → IsListed (from + rev) (places_in rs rev) (lists_in rs rev)) → IsListed (from + length rs) r.places r.entries → (rev : ℕ) → IsListed (from + rev) (places_in (rs ++ r ∷ []) rev) (lists_in (rs ++ r ∷ []) rev)
-listed-push from [] r h listed zero = listed
-listed-push from [] r h listed (suc rev) = none_listed (from + suc rev)
-listed-push from (q ∷ rs) r h listed zero = h 0
-listed-push from (q ∷ rs) r h listed (suc rev) =
-    let back : (from + 1) + rev ≡ from + suc rev = omega arith in
-    let last : from + suc (length rs) ≡ (from + 1) + length rs = omega arith in
-    subst (λ (n : ℕ). IsListed n (places_in (rs ++ r ∷ []) rev) (lists_in (rs ++ r ∷ []) rev)) back
-    (listed-push (from + 1) rs r (λ n. let there : from + suc n ≡ (from + 1) + n = omega arith in subst (λ (m : ℕ). IsListed m (places_in rs n) (lists_in rs n)) there (h (suc n))) (subst (λ (m : ℕ). IsListed m r.places r.entries) last listed) rev)
-
-listed-more : (rs : List FlatRevision) (number : ℕ) (r : FlatRevision) → ((rev : ℕ) → IsListed rev (places_in rs rev) (lists_in rs rev)) → IsListed number r.places r.entries → number ≡ length rs → (rev : ℕ) → IsListed rev (places_in (rs ++ r ∷ []) rev) (lists_in (rs ++ r ∷ []) rev)
-listed-more rs number r h listed next rev =
-    let begin : (n : ℕ) → n ≡ 0 + n = λ n. omega arith in
-    subst (λ (n : ℕ). IsListed n (places_in (rs ++ r ∷ []) rev) (lists_in (rs ++ r ∷ []) rev)) (sym (begin rev))
-    (listed-push 0 rs r (λ n. subst (λ (m : ℕ). IsListed m (places_in rs n) (lists_in rs n)) (begin n) (h n)) (subst (λ (m : ℕ). IsListed m r.places r.entries) (next ∙ begin (length rs)) listed) rev)
-
-length-push : (rs : List FlatRevision) (r : FlatRevision) → length (rs ++ r ∷ []) ≡ length rs + 1
-length-push [] r = refl
-length-push (q ∷ rs) r = let e = length-push rs r in omega (arith, e)
+  kept_later : (rev : ℕ) (tree : Tree) (root : ℕ) (commit : Commit) → IsKept cells rev tree root commit → IsKept (cells ++ more) rev tree root commit
+  kept_later rev tree root commit k = record {
+    within = (let w = k.within in omega (arith, w, length-append cells more));
+    created = subst (λ (c : Cell). c.node.created ≤ rev) (sym (cell_at-kept cells more root k.within)) k.created;
+    shown = shown_more root tree k.within k.shown;
+    sorted = k.sorted;
+    nodes = k.nodes;
+    commit_is = k.commit_is;
+  }
 
 -- the revisions with one more
-pub kept_more : (base rs : List FlatRevision) (number : ℕ) (r : FlatRevision) → AreKept rs → IsReady base number r → number ≡ length rs → AreKept (rs ++ r ∷ [])
-kept_more base rs number r kept ready next = record {
+kept_more : (cells more : List Cell) (rs : List KeptRevision) (r : KeptRevision) (tree : Tree) → AreKept cells rs → IsSound (cells ++ more) → IsKept (cells ++ more) (length rs) tree r.root r.commit → tree ≡ after (trees_in rs) r.commit → length rs ≤ 2000000000 → AreKept (cells ++ more) (rs ++ r ∷ [])
+kept_more cells more rs r tree kept sound new is few = record {
   some = omega (arith, length-push rs r);
-  few = (let few = ready.few in omega (arith, length-push rs r, few, next));
-  flat = flat-push rs r kept.flat ready.flat;
-  listed = listed-more rs number r kept.listed ready.listed next;
-  formed = λ rev h. let n = length-push rs r in formed-push rs r kept.formed ready.formed rev (omega (arith, n, h));
-  nodes = nodes-more rs number r kept.nodes ready.nodes next;
-  commits = λ rev h. let n = length-push rs r in commits-more rs number r kept.commits ready.commit next rev (omega (arith, n, h));
+  few = omega (arith, length-push rs r, few);
+  sound = sound;
+  kept = all;
 }
-
-pub pushes_one : (name uuid : List ℕ) (room more : ℕ) (base rs : List FlatRevision) (r : FlatRevision) (ready : ReadyRevision) (old : Forest) → forest_of name uuid rs room ≡ old → ready_of base r ≡ ready → Pushes ready old (forest_of name uuid (rs ++ r ∷ []) more)
-pushes_one name uuid room more base rs r ready old is as_ready =
-    subst (λ (f : Forest). Pushes ready f (forest_of name uuid (rs ++ r ∷ []) more)) is (subst (λ (q : ReadyRevision). Pushes q (forest_of name uuid rs room) (forest_of name uuid (rs ++ r ∷ []) more)) as_ready (record {
-      name = refl;
-      uuid = refl;
-      revision = numbered_revision (0 + length rs) r;
-      revisions = revisions-push 0 rs r;
-      commit = refl;
-      changed = refl;
-      tree = tree_of-numbered (0 + length rs) 0 r.places;
-    }))
-
--- what was made on the youngest revision is ready where there is room
-pub ready_on : (name uuid : List ℕ) (room : ℕ) (rs : List FlatRevision) (revision : FlatRevision) (ready : ReadyRevision) → ready ≡ ready_of rs revision → 1 ≤ room → IsReadyOn ready (forest_of name uuid rs room)
-ready_on name uuid room rs revision ready is roomy = record {
-  base = ap (λ (r : ReadyRevision). r.base) is;
-  roomy = (let needs = ap (λ (r : ReadyRevision). r.needs) is in omega (arith, needs, roomy));
-}
-
--- what was prepared on these revisions has the number after them
-pub number_on : (name uuid : List ℕ) (room : ℕ) (base rs : List FlatRevision) (number : ℕ) (revision : FlatRevision) (ready : ReadyRevision) (forest : Forest) → forest_of name uuid rs room ≡ forest → ready_of base revision ≡ ready → IsReady base number revision → IsReadyOn ready forest → number ≡ length rs
-number_on name uuid room base rs number revision ready forest is as_ready ready_is on =
-    let same = ap (λ (r : ReadyRevision). r.base) as_ready ∙ on.base ∙ ap (λ (f : Forest). f.revisions) (sym is) in
-    ready_is.next ∙ sym (length-from 0 base) ∙ ap (λ (qs : List ForestRevision). length qs) same ∙ length-from 0 rs
   where
-    length-from : (from : ℕ) (qs : List FlatRevision) → length (revisions_from from qs) ≡ length qs
-    length-from from [] = refl
-    length-from from (q ∷ qs) = ap suc (length-from (from + 1) qs)
+    push : trees_in (rs ++ r ∷ []) ≡ trees_in rs ++ after (trees_in rs) r.commit ∷ []
+    push = trees-push rs r kept.some
 
--- what was made of a sound commit is ready
-pub made_ready : (rs : List FlatRevision) (commit : Commit) (number : ℕ) (revision : FlatRevision) → AreKept rs → IsSoundCommit commit → IsMade rs commit revision → number ≡ length rs → number ≤ 2000000000 → IsReady rs number revision
-made_ready rs commit number revision kept sound made next few =
-    let some = kept.some in
-    let sources : (rev : ℕ) → All (HasSoundNode rev) (tree_at (trees_in rs) rev) = λ rev. subst (All (HasSoundNode rev)) (sym (source_tree rs rev)) (kept.nodes rev) in
-    let before : All (HasSoundNode (length rs)) (youngest_in rs) = later_nodes (length rs - 1) (length rs) (youngest_in rs) (omega arith) (kept.nodes (length rs - 1)) in
-    let nodes : All (HasSoundNode (length rs)) (tree_in revision.places) = sound_changes (length rs) (trees_in rs) (length-trees rs) sources commit.changes 0 (youngest_in rs) (tree_in revision.places) sound.changes made.tree_is before in
-    let below = sources_below (length rs) (trees_in rs) (length-trees rs) sources commit.changes 0 (youngest_in rs) (tree_in revision.places) made.tree_is in
-    record {
-      next = next;
-      few = few;
-      commit = subst (λ (c : Commit). IsCommitOf number c) (sym made.commit_is) (record {
-        sound = sound;
-        sources = subst (λ (n : ℕ). list_all (comes_from_below n) commit.changes ≡ true) (sym next) below;
-        first = λ e. absurd (omega (arith, e, next, some));
-      });
-      nodes = subst (λ (n : ℕ). All (HasSoundNode n) (tree_in revision.places)) (sym next) nodes;
-      flat = made.flat;
-      listed = subst (λ (n : ℕ). IsListed n revision.places revision.entries) (sym next) made.listed;
-      formed = made.formed;
-    }
+    old : (rev : ℕ) → rev < length rs → IsKept (cells ++ more) rev (tree_at (trees_in (rs ++ r ∷ [])) rev) (kept_at (rs ++ r ∷ []) rev).root (kept_at (rs ++ r ∷ []) rev).commit
+    old rev h =
+        let t : tree_at (trees_in (rs ++ r ∷ [])) rev ≡ tree_at (trees_in rs) rev = ap (λ (ts : List Tree). tree_at ts rev) push ∙ tree_at-push (trees_in rs) (after (trees_in rs) r.commit) rev (let n = trees-length rs in omega (arith, n, h)) in
+        subst (λ (q : KeptRevision). IsKept (cells ++ more) rev (tree_at (trees_in (rs ++ r ∷ [])) rev) q.root q.commit) (sym (kept_at-push rs r rev h))
+        (subst (λ (q : Tree). IsKept (cells ++ more) rev q (kept_at rs rev).root (kept_at rs rev).commit) (sym t)
+        (kept_later cells more kept.sound rev (tree_at (trees_in rs) rev) (kept_at rs rev).root (kept_at rs rev).commit (kept.kept rev h)))
 
-map-push : (rs : List ForestRevision) (r : ForestRevision) → map without_numbers (rs ++ r ∷ []) ≡ map without_numbers rs ++ without_numbers r ∷ []
-map-push [] r = refl
-map-push (q ∷ rs) r = ap (λ (others : List Revision). without_numbers q ∷ others) (map-push rs r)
+    last : IsKept (cells ++ more) (length rs) (tree_at (trees_in (rs ++ r ∷ [])) (length rs)) (kept_at (rs ++ r ∷ []) (length rs)).root (kept_at (rs ++ r ∷ []) (length rs)).commit
+    last =
+        let t : tree_at (trees_in (rs ++ r ∷ [])) (length rs) ≡ tree = ap (λ (ts : List Tree). tree_at ts (length rs)) push ∙ ap (tree_at (trees_in rs ++ after (trees_in rs) r.commit ∷ [])) (sym (trees-length rs)) ∙ tree_at-last (trees_in rs) (after (trees_in rs) r.commit) ∙ sym is in
+        subst (λ (q : KeptRevision). IsKept (cells ++ more) (length rs) (tree_at (trees_in (rs ++ r ∷ [])) (length rs)) q.root q.commit) (sym (kept_at-last rs r))
+        (subst (λ (q : Tree). IsKept (cells ++ more) (length rs) q r.root r.commit) (sym t) new)
 
--- a commit that was prepared and pushed is pushed onto the revisions
-pub pushed_is : (commit : Commit) (old mid new : Forest) (ready : ReadyRevision) → IsUnchanged old mid → IsNext (revisions_of old) commit ready → Pushes ready mid new → pushed (revisions_of old) commit ≡ Ok (revisions_of new)
-unfolding pushed
-pushed_is commit old mid new ready same next pushes =
-    let finish = λ (tree : Tree). let revisions : Result (List Revision) (ℕ × Unfit) = Ok (revisions_of old ++ revision_of commit (youngest_tree (revisions_of old)) tree ∷ []) in revisions in
-    let last : without_numbers pushes.revision ≡ revision_of commit (youngest_tree (revisions_of old)) ready.tree = λ i. record { commit = (pushes.commit ∙ next.commit_is) i; changed = (pushes.changed ∙ next.changed_is) i; tree = pushes.tree i } in
-    let all : revisions_of new ≡ revisions_of old ++ revision_of commit (youngest_tree (revisions_of old)) ready.tree ∷ [] =
-    ap (map without_numbers) (pushes.revisions ∙ ap (λ (rs : List ForestRevision). rs ++ pushes.revision ∷ []) same.revisions)
-    ∙ map-push old.revisions pushes.revision
-    ∙ ap (λ (r : Revision). revisions_of old ++ r ∷ []) last in
-    ap (λ (read : Result Tree (ℕ × Unfit)). read >>= finish) next.tree_is ∙ ap (λ (rs : List Revision). let done : Result (List Revision) (ℕ × Unfit) = Ok rs in done) (sym all)
+    all : (rev : ℕ) → rev < length (rs ++ r ∷ []) → IsKept (cells ++ more) rev (tree_at (trees_in (rs ++ r ∷ [])) rev) (kept_at (rs ++ r ∷ []) rev).root (kept_at (rs ++ r ∷ []) rev).commit
+    all rev h = elim (cases_lt rev (length rs)) [
+      | inl low ↦ old rev low
+      | inr high ↦ (let n = length-push rs r in let same : length rs ≡ rev = omega (arith, h, high, n) in subst (λ (n : ℕ). IsKept (cells ++ more) n (tree_at (trees_in (rs ++ r ∷ [])) n) (kept_at (rs ++ r ∷ []) n).root (kept_at (rs ++ r ∷ []) n).commit) same last)
+    ]
+
+-- ---- a revision that is ready becomes one
+
+module _ (name uuid : List ℕ) (cells : List Cell) (rs : List KeptRevision) (room node_room : ℕ) (forest : Forest) (is : forest_of name uuid cells rs room node_room ≡ forest) (base : Forest) (number : ℕ) (r : KeptRevision) (more : List Cell) (ready : ReadyRevision) (as_ready : ready_of base r.commit r.changed more ≡ ready) (made : IsReady base number r more) (on : IsReadyOn ready forest) where
+  same_base : base.revisions ≡ forest.revisions
+  same_base = ap (λ (q : ReadyRevision). q.base) as_ready ∙ on.base
+
+  same_nodes : base.nodes ≡ cells
+  same_nodes = ap (λ (q : ReadyRevision). q.nodes) as_ready ∙ on.nodes ∙ nodes-of name uuid cells rs room node_room forest is
+
+  pub number_on : number ≡ length rs
+  number_on = made.next ∙ ap (λ (qs : List ForestRevision). length qs) same_base ∙ length-of name uuid cells rs room node_room forest is
+
+  pub sound_on : IsSound (cells ++ more)
+  sound_on = subst (λ (cs : List Cell). IsSound (cs ++ more)) same_nodes made.sound
+
+  pub room_on : 1 ≤ room
+  room_on =
+      let needs = ap (λ (q : ReadyRevision). q.needs) as_ready in
+      let roomy = on.roomy in
+      let there = room-of name uuid cells rs room node_room forest is in
+      omega (arith, needs, roomy, there)
+
+  pub node_room_on : length more ≤ node_room
+  node_room_on =
+      let needs = ap (λ (q : ReadyRevision). q.node_needs) as_ready in
+      let roomy = on.node_roomy in
+      let there = node_room-of name uuid cells rs room node_room forest is in
+      omega (arith, needs, roomy, there)
+
+  -- the tree of what is ready is the next of the kept ones
+  tree_on : tree_made base r.commit ≡ after (trees_in rs) r.commit
+  tree_on =
+      ap (λ (qs : List ForestRevision). tree_or_none (tree_after (map without_numbers qs) r.commit)) same_base
+      ∙ ap tree_or_none (after-is name uuid cells rs room node_room forest is r.commit)
+
+  pub kept_on : AreKept cells rs → AreKept (cells ++ more) (rs ++ r ∷ [])
+  kept_on kept = kept_more cells more rs r (tree_made base r.commit) kept sound_on
+      (subst (λ (n : ℕ). IsKept (cells ++ more) n (tree_made base r.commit) r.root r.commit) number_on
+      (subst (λ (cs : List Cell). IsKept (cs ++ more) number (tree_made base r.commit) r.root r.commit) same_nodes made.kept))
+      tree_on
+      (let few = made.few in let n = number_on in omega (arith, few, n))
+
+  pub pushes_one : AreKept cells rs → (new_room new_node_room : ℕ) → Pushes ready forest (forest_of name uuid (cells ++ more) (rs ++ r ∷ []) new_room new_node_room)
+  pushes_one kept new_room new_node_room = record {
+    name = ap (λ (f : Forest). f.name) is;
+    uuid = ap (λ (f : Forest). f.uuid) is;
+    revision = revision_in (cells ++ more) r (after (trees_in rs) r.commit);
+    revisions =
+        ap (revisions_in (cells ++ more) (rs ++ r ∷ [])) (trees-push rs r kept.some)
+        ∙ in-push (cells ++ more) rs (trees_in rs) r (after (trees_in rs) r.commit) (trees-length rs)
+        ∙ ap (λ (qs : List ForestRevision). qs ++ revision_in (cells ++ more) r (after (trees_in rs) r.commit) ∷ []) (in-kept cells more kept.sound rs (trees_in rs) (λ rev h. (kept.kept rev h).within) ∙ ap (λ (f : Forest). f.revisions) is);
+    commit = ap (λ (q : ReadyRevision). q.commit) as_ready;
+    changed = ap (λ (q : ReadyRevision). q.changed) as_ready;
+    tree = tree-numbered (cells ++ more) r.root (after (trees_in rs) r.commit) ∙ sym tree_on ∙ ap (λ (q : ReadyRevision). q.tree) as_ready;
+    more = more;
+    nodes = ap (λ (cs : List Cell). cs ++ more) (ap (λ (f : Forest). f.nodes) is);
+    few = subst (λ (q : ReadyRevision). length more ≤ 65 * length q.commit.changes) as_ready made.sparse;
+  }
+
+-- ---- what was made of a sound commit is ready
+
+kept_trees : (cells : List Cell) (rs : List KeptRevision) → AreKept cells rs → (rev : ℕ) → All (HasSoundNode rev) (tree_at (trees_in rs) rev)
+kept_trees cells rs kept rev = elim (cases_lt rev (length rs)) [
+  | inl h ↦ (kept.kept rev h).nodes
+  | inr past ↦ subst (All (HasSoundNode rev)) (sym (past_end (trees_in rs) rev (let n = trees-length rs in omega (arith, n, past)))) (All-nil (HasSoundNode rev))
+]
+
+module _ (name uuid : List ℕ) (cells : List Cell) (rs : List KeptRevision) (room node_room : ℕ) (base : Forest) (is : forest_of name uuid cells rs room node_room ≡ base) (kept : AreKept cells rs) (commit : Commit) (sound : IsSoundCommit commit) (next : NextRevision) (made : IsMade cells (trees_in rs) commit next) where
+  tree_is : tree_made base next.revision.commit ≡ made.tree
+  tree_is = ap (tree_made base) made.commit_is ∙ ap tree_or_none (after-is name uuid cells rs room node_room base is commit ∙ made.tree_is)
+
+  read_is : apply_from 0 commit.changes (trees_in rs) (youngest (trees_in rs)) (length rs) ≡ Ok made.tree
+  read_is = ap (apply_from 0 commit.changes (trees_in rs) (youngest (trees_in rs))) (sym (trees-length rs)) ∙ made.tree_is
+
+  nodes_made : All (HasSoundNode (length rs)) made.tree
+  nodes_made =
+      let some = kept.some in
+      let n = trees-length rs in
+      let before : All (HasSoundNode (length rs)) (youngest (trees_in rs)) = later_nodes (length (trees_in rs) - 1) (length rs) (youngest (trees_in rs)) (omega (arith, some, n)) (kept_trees cells rs kept (length (trees_in rs) - 1)) in
+      sound_changes (length rs) (trees_in rs) (trees-length rs) (kept_trees cells rs kept) (λ rev h. (kept.kept rev (omega (arith, n, h))).shown.formed) commit.changes 0 (youngest (trees_in rs)) made.tree sound.changes read_is before
+
+  commit_made : IsCommitOf (length rs) commit
+  commit_made = let some = kept.some in record {
+    sound = sound;
+    sources = sources_below (length rs) (trees_in rs) (trees-length rs) (kept_trees cells rs kept) commit.changes 0 (youngest (trees_in rs)) made.tree read_is;
+    first = λ e. absurd (omega (arith, e, some));
+  }
+
+  pub made_ready : (number : ℕ) → number ≡ length rs → number ≤ 2000000000 → IsReady base number next.revision next.cells.items
+  made_ready number number_is few = subst (λ (n : ℕ). IsReady base n next.revision next.cells.items) (sym number_is) (record {
+    next = sym (length-of name uuid cells rs room node_room base is);
+    few = omega (arith, few, number_is);
+    sound = subst (λ (cs : List Cell). IsSound (cs ++ next.cells.items)) (sym (nodes-of name uuid cells rs room node_room base is)) made.sound;
+    kept = subst (λ (cs : List Cell). IsKept (cs ++ next.cells.items) (length rs) (tree_made base next.revision.commit) next.revision.root next.revision.commit) (sym (nodes-of name uuid cells rs room node_room base is))
+        (subst (λ (t : Tree). IsKept (cells ++ next.cells.items) (length rs) t next.revision.root next.revision.commit) (sym tree_is) (record {
+          within = made.within;
+          created = (let c = made.created in let n = trees-length rs in omega (arith, c, n));
+          shown = made.shown;
+          sorted = made.sorted;
+          nodes = nodes_made;
+          commit_is = subst (IsCommitOf (length rs)) (sym made.commit_is) commit_made;
+        }));
+    sparse = subst (λ (c : Commit). length next.cells.items ≤ 65 * length c.changes) (sym made.commit_is) made.few;
+  })
+
+-- what was made is the next revision of the trees as they were
+pub is_next : (name uuid : List ℕ) (cells : List Cell) (rs : List KeptRevision) (room node_room : ℕ) (old base : Forest) → forest_of name uuid cells rs room node_room ≡ old → base.revisions ≡ old.revisions → (commit : Commit) (next : NextRevision) → IsMade cells (trees_in rs) commit next
+    → (ready : ReadyRevision) → ready ≡ ready_of base next.revision.commit next.revision.changed next.cells.items → IsNext (revisions_of old) commit ready
+is_next name uuid cells rs room node_room old base is same commit next made ready as_made = subst (λ (r : ReadyRevision). IsNext (revisions_of old) commit r) (sym as_made) (record {
+  commit_is = made.commit_is;
+  tree_is = read ∙ ap (λ (t : Tree). Ok t) (sym tree);
+  changed_is = made.changed_is ∙ (λ i. changed_paths commit.changes (sym (youngest-is name uuid cells rs room node_room old is) i) (sym tree i));
+})
+  where
+    read : tree_after (revisions_of old) commit ≡ Ok made.tree
+    read = after-is name uuid cells rs room node_room old is commit ∙ made.tree_is
+
+    tree : tree_made base next.revision.commit ≡ made.tree
+    tree =
+        ap (λ (qs : List ForestRevision). tree_or_none (tree_after (map without_numbers qs) next.revision.commit)) same
+        ∙ ap (λ (c : Commit). tree_or_none (tree_after (map without_numbers old.revisions) c)) made.commit_is
+        ∙ ap tree_or_none read
+
+pub not_next : (name uuid : List ℕ) (cells : List Cell) (rs : List KeptRevision) (room node_room : ℕ) (old : Forest) → forest_of name uuid cells rs room node_room ≡ old → (commit : Commit) (new : Forest) (fault : PushFault) → length old.revisions ≤ 2000000000 → Makes cells (trees_in rs) commit (Err fault) → Prepares commit old new (Err fault)
+not_next name uuid cells rs room node_room old is commit new (faults.Unfit index) few h = (few, h.0, after-is name uuid cells rs room node_room old is commit ∙ h.1)
+not_next name uuid cells rs room node_room old is commit new faults.FullRevisions few h = absurd h
+not_next name uuid cells rs room node_room old is commit new faults.NoMemory few h = few
+
+-- what was made is ready where there is room
+pub ready_on : (base forest : Forest) (commit : Commit) (changed : List Changed) (more : List Cell) (ready : ReadyRevision) → ready ≡ ready_of base commit changed more → base.revisions ≡ forest.revisions → base.nodes ≡ forest.nodes → 1 ≤ forest.room → length more ≤ forest.node_room → IsReadyOn ready forest
+ready_on base forest commit changed more ready is same same_nodes room node_room = record {
+  base = ap (λ (r : ReadyRevision). r.base) is ∙ same;
+  nodes = ap (λ (r : ReadyRevision). r.nodes) is ∙ same_nodes;
+  roomy = (let needs = ap (λ (r : ReadyRevision). r.needs) is in omega (arith, needs, room));
+  node_roomy = (let needs = ap (λ (r : ReadyRevision). r.node_needs) is in omega (arith, needs, node_room));
+}

@@ -1,86 +1,139 @@
--- How a repository is kept: its revisions as flat lists of places, of which each has the number of
--- its revision and of where it stands there.
-use Rattle.std.specs.Prelude.{ℕ, ◌≡◌, ◌+◌, ◌≤◌, ◌<◌, List, [], ◌∷◌, None, length, map, slice_index_or, IsTrue}
-use Rattle.dsv_base.specs.Paths.{root_text}
-use Rattle.rev_nodes.specs.declared.kind.Kind.TheVariants.{Dir}
-use Rattle.rev_trees.specs.declared.place.Place.{Place}
-use Rattle.rev_trees.specs.declared.revision.FlatRevision.{FlatRevision}
-use Rattle.rev_nodes.specs.Trees.{Tree}
-use Rattle.rev_nodes.specs.Forests.{ForestRevision, Forest, no_commit}
-use Rattle.rev_trees.specs.Readies.{ReadyRevision}
-use Rattle.rev_nodes.specs.Fitting.{in_order}
-use Rattle.rev_trees.specs.Flat.{tree_in}
-use Rattle.rev_trees.specs.Numbers.{numbered_from}
-use Rattle.rev_trees.specs.Listed.{IsListed}
-use Rattle.rev_nodes.specs.Formed.{IsFormed}
-use Rattle.rev_nodes.specs.Commits.{IsCommitOf}
-use Rattle.rev_nodes.specs.SoundNodes.{HasSoundNode}
-use Rattle.rev_nodes.specs.declared.commit.Commit.{Commit}
+-- How a repository is kept: one table of nodes that its revisions share; and for each revision its commit,
+-- what this changed, and the number of its root.
+use Rattle.std.specs.Prelude.{ℕ, ◌≡◌, ◌+◌, ◌-◌, ◌*◌, ◌≤◌, ◌<◌, List, [], ◌∷◌, ◌++◌, Option, None, Some, Result, Ok, Err, length, map, slice_index_or, nat_lt, IsTrue, if◌then◌else◌}
 use Rattle.std.specs.List.{All}
-use Rattle.rev_nodes.specs.declared.entry.Entry.{Entry}
+use Rattle.rev_nodes.specs.declared.cell.Cell.{Cell}
+use Rattle.rev_nodes.specs.declared.change.Change.{Change}
+use Rattle.rev_nodes.specs.declared.change.Change.TheVariants.{Put, SetProp, DelProp, Mkdir, Delete, Copy}
+use Rattle.rev_nodes.specs.declared.changed.Changed.{Changed}
+use Rattle.rev_nodes.specs.declared.commit.Commit.{Commit}
+use Rattle.rev_nodes.specs.declared.unfit.Unfit.{Unfit}
+use Rattle.rev_nodes.specs.Trees.{Tree, first_tree, tree_at}
+use Rattle.rev_nodes.specs.Changes.{apply_from}
+use Rattle.rev_nodes.specs.Commits.{IsCommitOf}
+use Rattle.rev_nodes.specs.Fitting.{in_order}
+use Rattle.rev_nodes.specs.Forests.{ForestRevision, Forest, without_numbers, no_commit}
+use Rattle.rev_nodes.specs.Pushes.{tree_after}
+use Rattle.rev_nodes.specs.SoundNodes.{HasSoundNode}
+use Rattle.node_table.specs.Tables.{cell_at, IsSound}
+use Rattle.node_table.specs.Numbers.{numbered}
+use Rattle.node_table.specs.Shown.{IsShown}
+use Rattle.rev_trees.specs.declared.revision.KeptRevision.{KeptRevision}
+use Rattle.rev_trees.specs.Readies.{ReadyRevision}
+
+-- the tree that changes made, or none where one didn't fit
+abbrev pub tree_or_none : Result Tree (ℕ × Unfit) → Tree
+tree_or_none (Ok tree) = tree
+tree_or_none (Err why) = []
+
+-- the youngest of the trees
+abbrev pub youngest : List Tree → Tree
+youngest trees = tree_at trees (length trees - 1)
+
+-- what a commit makes of the youngest of these trees, or its first change that doesn't fit
+abbrev pub made_of : List Tree → Commit → Result Tree (ℕ × Unfit)
+made_of trees commit = apply_from 0 commit.changes trees (youngest trees) (length trees)
+
+-- the tree that a commit makes of the youngest of these
+abbrev pub after : List Tree → Commit → Tree
+after trees commit = tree_or_none (made_of trees commit)
+
+-- the trees, and those that the commits make of them, one after another
+abbrev pub trees_from : List Tree → List Commit → List Tree
+trees_from trees [] = trees
+trees_from trees (commit ∷ commits) = trees_from (trees ++ after trees commit ∷ []) commits
+
+-- the commits of revisions
+abbrev pub commits_of : List KeptRevision → List Commit
+commits_of revisions = map (λ revision. revision.commit) revisions
+
+-- the trees of revisions: the first has the root alone, and each other is what its commit makes of those before it
+abbrev pub trees_in : List KeptRevision → List Tree
+trees_in [] = []
+trees_in (revision ∷ revisions) = trees_from (first_tree ∷ []) (commits_of revisions)
 
 -- a revision as callers see it
-abbrev pub numbered_revision : ℕ → FlatRevision → ForestRevision
-numbered_revision rev revision = record { commit = revision.commit; changed = revision.changed; places = numbered_from rev 0 revision.places }
+abbrev pub revision_in : List Cell → KeptRevision → Tree → ForestRevision
+revision_in cells revision tree = record {
+  commit = revision.commit;
+  changed = revision.changed;
+  places = numbered cells revision.root tree;
+}
 
--- revisions as callers see them, of which the first has this number
-abbrev pub revisions_from : ℕ → List FlatRevision → List ForestRevision
-revisions_from rev [] = []
-revisions_from rev (revision ∷ revisions) = numbered_revision rev revision ∷ revisions_from (rev + 1) revisions
+-- revisions as callers see them, each with its tree
+abbrev pub revisions_in : List Cell → List KeptRevision → List Tree → List ForestRevision
+revisions_in cells [] trees = []
+revisions_in cells (revision ∷ revisions) [] = []
+revisions_in cells (revision ∷ revisions) (tree ∷ trees) = revision_in cells revision tree ∷ revisions_in cells revisions trees
 
 -- the trees as callers see them
-abbrev pub forest_of : List ℕ → List ℕ → List FlatRevision → ℕ → Forest
-forest_of name uuid revisions room = record { name = name; uuid = uuid; revisions = revisions_from 0 revisions; room = room }
+abbrev pub forest_of : List ℕ → List ℕ → List Cell → List KeptRevision → ℕ → ℕ → Forest
+forest_of name uuid cells revisions room node_room = record {
+  name = name;
+  uuid = uuid;
+  revisions = revisions_in cells revisions (trees_in revisions);
+  nodes = cells;
+  room = room;
+  node_room = node_room;
+}
 
 -- past the youngest stands nothing
-abbrev pub no_flat_revision : FlatRevision
-no_flat_revision = record { commit = no_commit; changed = []; places = []; entries = [] }
+abbrev pub no_kept_revision : KeptRevision
+no_kept_revision = record { commit = no_commit; changed = []; root = 0 }
 
--- the root as revision 0 has it
-abbrev pub root_place : Place
-root_place = record { path = root_text; node = record { kind = Dir; props = []; text = []; created = 0 }; line = record { since = 0; source = None } }
+-- the revision of this number
+abbrev pub kept_at : List KeptRevision → ℕ → KeptRevision
+kept_at revisions rev = slice_index_or revisions rev no_kept_revision
 
--- the places of a revision, none past the youngest
-abbrev pub places_in : List FlatRevision → ℕ → List Place
-places_in revisions rev = (slice_index_or revisions rev no_flat_revision).places
+-- the root of the revision of this number, if there is one
+abbrev pub root_in : List KeptRevision → ℕ → Option ℕ
+root_in revisions rev = if nat_lt rev (length revisions) then Some (kept_at revisions rev).root else None
 
--- the commit of a revision
-abbrev pub commit_in : List FlatRevision → ℕ → Commit
-commit_in revisions rev = (slice_index_or revisions rev no_flat_revision).commit
+-- the root of the tree that a change copies from, if there is such a revision; none for another change
+abbrev pub source_in : List KeptRevision → Change → Option ℕ
+source_in revisions (Put path text) = None
+source_in revisions (SetProp path name value) = None
+source_in revisions (DelProp path name) = None
+source_in revisions (Mkdir path) = None
+source_in revisions (Delete path) = None
+source_in revisions (Copy source rev path) = root_in revisions rev
 
--- what stands in the places of a revision
-abbrev pub lists_in : List FlatRevision → ℕ → List (List Entry)
-lists_in revisions rev = (slice_index_or revisions rev no_flat_revision).entries
-
--- the trees that changes copy from
-abbrev pub trees_in : List FlatRevision → List Tree
-trees_in revisions = map (λ revision. tree_in revision.places) revisions
-
--- places that are a revision's
-pub record IsFlat (places : List Place) : Type 0 where
-  pub short : length places ≤ 4294967296
-  pub sorted : IsTrue (in_order (tree_in places))
-
--- a revision that was made after these
-abbrev pub ready_of : List FlatRevision → FlatRevision → ReadyRevision
-ready_of revisions revision = record { base = revisions_from 0 revisions; needs = 1; commit = revision.commit; changed = revision.changed; tree = tree_in revision.places }
-
--- what can become the revision of this number after these
-pub record IsReady (revisions : List FlatRevision) (number : ℕ) (revision : FlatRevision) : Type 0 where
-  pub next : number ≡ length revisions
-  pub few : number ≤ 2000000000
-  pub commit : IsCommitOf number revision.commit
-  pub nodes : All (HasSoundNode number) (tree_in revision.places)
-  pub flat : IsFlat revision.places
-  pub listed : IsListed number revision.places revision.entries
-  pub formed : IsFormed (tree_in revision.places)
+-- a root of the table that shows the tree of the revision of this number, which its commit made
+pub record IsKept (cells : List Cell) (rev : ℕ) (tree : Tree) (root : ℕ) (commit : Commit) : Type 0 where
+  pub within : root < length cells
+  pub created : (cell_at cells root).node.created ≤ rev
+  pub shown : IsShown cells root tree
+  pub sorted : IsTrue (in_order tree)
+  pub nodes : All (HasSoundNode rev) tree
+  pub commit_is : IsCommitOf rev commit
 
 -- revisions that trees may keep
-pub record AreKept (revisions : List FlatRevision) : Type 0 where
+pub record AreKept (cells : List Cell) (revisions : List KeptRevision) : Type 0 where
   pub some : 1 ≤ length revisions
   pub few : length revisions ≤ 2000000001
-  pub flat : (rev : ℕ) → IsFlat (places_in revisions rev)
-  pub listed : (rev : ℕ) → IsListed rev (places_in revisions rev) (lists_in revisions rev)
-  pub formed : (rev : ℕ) → rev < length revisions → IsFormed (tree_in (places_in revisions rev))
-  pub nodes : (rev : ℕ) → All (HasSoundNode rev) (tree_in (places_in revisions rev))
-  pub commits : (rev : ℕ) → rev < length revisions → IsCommitOf rev (commit_in revisions rev)
+  pub sound : IsSound cells
+  pub kept : (rev : ℕ) → rev < length revisions → IsKept cells rev (tree_at (trees_in revisions) rev) (kept_at revisions rev).root (kept_at revisions rev).commit
+
+-- the tree that a commit makes of the youngest one of a forest
+abbrev pub tree_made : Forest → Commit → Tree
+tree_made forest commit = tree_or_none (tree_after (map without_numbers forest.revisions) commit)
+
+-- a revision that was made on these trees, with nodes of its own
+abbrev pub ready_of : Forest → Commit → List Changed → List Cell → ReadyRevision
+ready_of base commit changed cells = record {
+  base = base.revisions;
+  nodes = base.nodes;
+  needs = 1;
+  node_needs = length cells;
+  commit = commit;
+  changed = changed;
+  tree = tree_made base commit;
+}
+
+-- what can become the revision of this number of these trees
+pub record IsReady (base : Forest) (number : ℕ) (made : KeptRevision) (cells : List Cell) : Type 0 where
+  pub next : number ≡ length base.revisions
+  pub few : number ≤ 2000000000
+  pub sound : IsSound (base.nodes ++ cells)
+  pub kept : IsKept (base.nodes ++ cells) number (tree_made base made.commit) made.root made.commit
+  pub sparse : length cells ≤ 65 * length made.commit.changes

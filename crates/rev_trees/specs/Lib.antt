@@ -1,6 +1,4 @@
 pub mod Readies
-pub mod Flat
-pub mod Numbers
-pub mod Listed
 pub mod Kept
+pub mod ChangedKinds
 pub mod Made

@@ -1,38 +1,62 @@
 -- The next revision, as it is made from those that are kept.
-use Rattle.std.specs.Prelude.{ℕ, ◌≡◌, ◌-◌, Result, Ok, Err, List, ⊤, length}
+use Rattle.std.specs.Prelude.{ℕ, ◌≡◌, ◌+◌, ◌*◌, ◌≤◌, ◌<◌, ◌++◌, ⊤, List, Result, Ok, Err, length, IsTrue}
+use Rattle.rev_nodes.specs.declared.cell.Cell.{Cell}
+use Rattle.rev_nodes.specs.declared.change.Change.{Change}
 use Rattle.rev_nodes.specs.declared.commit.Commit.{Commit}
-use Rattle.rev_trees.specs.declared.push_fault.PushFault.{PushFault}
-use Rattle.rev_trees.specs.declared.push_fault.PushFault.TheVariants as faults
-use Rattle.rev_trees.specs.declared.revision.FlatRevision.{FlatRevision}
 use Rattle.rev_nodes.specs.declared.unfit.Unfit.{Unfit}
+use Rattle.rev_nodes.specs.declared.unfit.Unfit.TheVariants.{NoNode, IsRoot, Exists, NoParent, TooLong, NoMemory}
 use Rattle.rev_nodes.specs.Trees.{Tree}
 use Rattle.rev_nodes.specs.Changes.{apply_from}
 use Rattle.rev_nodes.specs.ChangedPaths.{changed_paths}
-use Rattle.rev_trees.specs.Flat.{tree_in}
-use Rattle.rev_trees.specs.Kept.{places_in, trees_in, IsFlat}
-use Rattle.rev_trees.specs.Listed.{IsListed}
-use Rattle.rev_nodes.specs.Formed.{IsFormed}
+use Rattle.rev_nodes.specs.Fitting.{in_order}
+use Rattle.node_table.specs.Tables.{cell_at, IsSound}
+use Rattle.node_table.specs.Shown.{IsShown}
+use Rattle.tree_edits.specs.Edits.{EditedTree, AreShown}
+use Rattle.rev_trees.specs.declared.push_fault.PushFault.{PushFault}
+use Rattle.rev_trees.specs.declared.push_fault.PushFault.TheVariants as faults
+use Rattle.rev_trees.specs.declared.revision.KeptRevision.{KeptRevision}
+use Rattle.rev_trees.specs.declared.next.NextRevision.{NextRevision}
+use Rattle.rev_trees.specs.Kept.{youngest, made_of}
 
--- the youngest tree
-abbrev pub youngest_in : List FlatRevision → Tree
-youngest_in revisions = tree_in (places_in revisions (length revisions - 1))
+-- the fault of the change of this number
+abbrev pub fault_of : ℕ → Unfit → PushFault
+fault_of index NoMemory = faults.NoMemory
+fault_of index NoNode = faults.Unfit index
+fault_of index IsRoot = faults.Unfit index
+fault_of index Exists = faults.Unfit index
+fault_of index NoParent = faults.Unfit index
+fault_of index TooLong = faults.Unfit index
 
--- the tree that a commit's changes make of the youngest, or the first that doesn't fit
-abbrev pub tree_made : List FlatRevision → Commit → Result Tree (ℕ × Unfit)
-tree_made revisions commit = apply_from 0 commit.changes (trees_in revisions) (youngest_in revisions) (length revisions)
+-- the edits show the tree that comes of the changes
+pub record AreDone (read : Result Tree (ℕ × Unfit)) (cells : List Cell) (edits : EditedTree) : Type 0 where
+  pub tree : Tree
+  pub is : read ≡ Ok tree
+  pub shown : AreShown cells edits tree
+  pub sorted : IsTrue (in_order tree)
 
--- the revision is what the commit makes of the revisions so far
-pub record IsMade (revisions : List FlatRevision) (commit : Commit) (revision : FlatRevision) : Type 0 where
-  pub commit_is : revision.commit ≡ commit
-  pub tree_is : tree_made revisions commit ≡ Ok (tree_in revision.places)
-  pub changed_is : revision.changed ≡ changed_paths commit.changes (youngest_in revisions) (tree_in revision.places)
-  pub flat : IsFlat revision.places
-  pub listed : IsListed (length revisions) revision.places revision.entries
-  pub formed : IsFormed (tree_in revision.places)
+-- the edits show what comes of the changes, or this is the first that doesn't fit
+abbrev pub AppliesAll : Result Tree (ℕ × Unfit) → List Cell → EditedTree → Result (Unit {0}) PushFault → Type 0
+AppliesAll read cells edits (Ok done) = AreDone read cells edits
+AppliesAll read cells edits (Err (faults.Unfit index)) = (why : Unfit) × (read ≡ Err (index, why))
+AppliesAll read cells edits (Err faults.FullRevisions) = ⊥
+AppliesAll read cells edits (Err faults.NoMemory) = ⊤
+
+-- the revision is what the commit makes of the trees so far, with its nodes behind those of the table
+pub record IsMade (cells : List Cell) (trees : List Tree) (commit : Commit) (made : NextRevision) : Type 0 where
+  pub commit_is : made.revision.commit ≡ commit
+  pub tree : Tree
+  pub tree_is : made_of trees commit ≡ Ok tree
+  pub changed_is : made.revision.changed ≡ changed_paths commit.changes (youngest trees) tree
+  pub sound : IsSound (cells ++ made.cells.items)
+  pub within : made.revision.root < length (cells ++ made.cells.items)
+  pub created : (cell_at (cells ++ made.cells.items) made.revision.root).node.created ≤ length trees
+  pub shown : IsShown (cells ++ made.cells.items) made.revision.root tree
+  pub sorted : IsTrue (in_order tree)
+  pub few : length made.cells.items ≤ 65 * length commit.changes
 
 -- what making the next revision answers
-abbrev pub Makes : List FlatRevision → Commit → Result FlatRevision PushFault → Type 0
-Makes revisions commit (Ok revision) = IsMade revisions commit revision
-Makes revisions commit (Err (faults.Unfit index)) = (why : Unfit) × (tree_made revisions commit ≡ Err (index, why))
-Makes revisions commit (Err faults.FullRevisions) = ⊥
-Makes revisions commit (Err faults.NoMemory) = ⊤
+abbrev pub Makes : List Cell → List Tree → Commit → Result NextRevision PushFault → Type 0
+Makes cells trees commit (Ok made) = IsMade cells trees commit made
+Makes cells trees commit (Err (faults.Unfit index)) = (why : Unfit) × (made_of trees commit ≡ Err (index, why))
+Makes cells trees commit (Err faults.FullRevisions) = ⊥
+Makes cells trees commit (Err faults.NoMemory) = ⊤

@@ -1,35 +1,41 @@
-ghost use Rattle.std.specs.Prelude.{◌≡◌, ◌≤◌, IsTrue, IfOk, None, is_some, length};
+ghost use Rattle.std.specs.Prelude.{ℕ, ◌≡◌, ◌<◌, ◌≤◌, None, IfOk, is_some, length};
 ghost use Rattle.std.specs.List.{filter_map};
-ghost use Rattle.rev_nodes.specs.declared.mark.Mark.TheVariants as marks;
+ghost use Rattle.rev_nodes.specs.Trees.{Tree};
 ghost use Rattle.rev_nodes.specs.ChangedPaths.{changed_paths};
-ghost use Rattle.rev_nodes.specs.Fitting.{in_order};
-ghost use Rattle.change_table.specs.ChangeTables.{deleted, source_of, kept_as, changed_in, no_last};
-ghost use Rattle.rev_trees.specs.Flat.{tree_in, node_of};
+ghost use Rattle.node_table.specs.Tables.{IsSound};
+ghost use Rattle.node_table.specs.Shown.{IsShown};
+ghost use Rattle.tree_edits.specs.Edits.{AreShown};
+ghost use Rattle.tree_edits.specs.AreEdits.{AreEdits};
+ghost use Rattle.change_table.specs.ChangeTables.{deleted, source_of};
+ghost use Rattle.rev_nodes.specs.declared.mark.Mark.TheVariants as marks;
+ghost use Rattle.rev_trees.specs.ChangedKinds.{kind_before, kind_after, kept_kind, changed_kind, row_between};
 
-use crate::place::Place;
-use crate::places::place_at;
-use crate::shared::Shared;
 use change_table::ChangeTable;
 use dsv_base::{List, NoMemory, Path};
-use rev_nodes::{Change, Changed, Kind, Mark};
+use node_table::{cell_of, place_at};
+use rev_nodes::{Cell, Change, Changed, Kind, Mark, NodeId};
 use std::alloc::Global;
+use tree_edits::Edits;
 
-/// The paths that the changes changed, from the places before them and after them: one pass over the
+/// The paths that the changes changed, from the tree of a root to that of the edits: one pass over the
 /// changes, and for each path that they name a look at those above it.
-#[tactic(auto, using(change_table::proofs::OnePass::told_so))]
+#[tactic(auto, using(crate::proofs::KindsTold::all_told))]
 pub fn changed_paths(
     alloc: Global,
     changes: &[Change],
-    before: &[Shared<Place>],
-    after: &[Shared<Place>],
+    cells: &[Cell],
+    root: NodeId,
+    edits: &Edits,
 ) -> Result<List<Changed>, NoMemory>
     requires few { length changes.now ≤ 4294967295 }
-    requires before { IsTrue (in_order (tree_in before.now)) }
-    requires after { IsTrue (in_order (tree_in after.now)) }
-    ensures { IfOk result (λ list. list ≡ changed_paths changes.now (tree_in before.now) (tree_in after.now)) }
+    requires sound { IsSound cells.now }
+    requires within { root < length cells.now }
+    requires are { (rev : ℕ) × AreEdits rev cells.now edits.now }
+    ensures { (before : Tree) (after : Tree) → IsShown cells.now root before → AreShown cells.now edits.now after
+        → IfOk result (λ list. list ≡ changed_paths changes.now before after) }
 {
     let table = ChangeTable::of(alloc, changes)?;
-    let list = changed_in(alloc, &table, before, after)?;
+    let list = changed_in(alloc, &table, cells, root, edits)?;
     Ok(list)
 }
 
@@ -37,83 +43,95 @@ pub fn changed_paths(
 fn changed_in(
     alloc: Global,
     table: &ChangeTable,
-    before: &[Shared<Place>],
-    after: &[Shared<Place>],
+    cells: &[Cell],
+    root: NodeId,
+    edits: &Edits,
 ) -> Result<List<Changed>, NoMemory>
-    requires before { IsTrue (in_order (tree_in before.now)) }
-    requires after { IsTrue (in_order (tree_in after.now)) }
-    ensures { IfOk result (λ list.
-        list ≡ filter_map (changed_in table.now (tree_in before.now) (tree_in after.now)) table.now) }
+    requires sound { IsSound cells.now }
+    requires within { root < length cells.now }
+    requires are { (rev : ℕ) × AreEdits rev cells.now edits.now }
+    ensures { IfOk result (λ list. list ≡ filter_map (row_between table.now cells.now root edits.now) table.now) }
 {
     let mut list = Vec::new(alloc);
     'rows: for row in table.rows() {
-        if let Some(changed) = changed_at(table, before, after, &row.path)? {
+        let was = kind_before(cells, root, &row.path);
+        let now = kind_after(edits, cells, &row.path)?;
+        if let Some(changed) = changed_at(table, was, now, &row.path)? {
             list.push(changed)?;
         }
     }
     Ok(List::of(list))
 }
 
+/// The kind of what a root shows at a path.
+fn kind_before(cells: &[Cell], root: NodeId, path: &Path) -> Option<Kind>
+    requires sound { IsSound cells.now }
+    requires within { root < length cells.now }
+    ensures { result ≡ kind_before cells.now root path.now }
+{
+    match place_at(cells, root, path) {
+        None => None,
+        Some(id) => Some(cell_of(cells, id).node.kind),
+    }
+}
+
+/// The kind of what edits show at a path.
+fn kind_after(edits: &Edits, cells: &[Cell], path: &Path) -> Result<Option<Kind>, NoMemory>
+    requires { (rev : ℕ) × AreEdits rev cells.now edits.now }
+    ensures { IfOk result (λ kind. kind ≡ kind_after cells.now edits.now path.now) }
+{
+    edits.kind_at(cells, path)
+}
+
 /// What the changes did to a path, if a node is or was there.
 fn changed_at(
     table: &ChangeTable,
-    before: &[Shared<Place>],
-    after: &[Shared<Place>],
+    was: Option<Kind>,
+    now: Option<Kind>,
     path: &Path,
 ) -> Result<Option<Changed>, NoMemory>
-    requires before { IsTrue (in_order (tree_in before.now)) }
-    requires after { IsTrue (in_order (tree_in after.now)) }
-    ensures { IfOk result (λ changed.
-        changed ≡ changed_in table.now (tree_in before.now) (tree_in after.now) (path.now, no_last)) }
+    ensures { IfOk result (λ changed. changed
+        ≡ changed_kind path.now (is_some (deleted table.now path.now)) (source_of table.now path.now) was now) }
 {
-    let was = place_at(before, path.text());
-    let now = place_at(after, path.text());
     match (was, now) {
         (None, None) => Ok(None),
-        (None, Some(now)) => Ok(Some(added(table, path, now)?)),
-        (Some(was), None) => Ok(Some(deleted(path, was.node.get().kind)?)),
-        (Some(_), Some(now)) => Ok(Some(kept(table, path, now)?)),
+        (None, Some(kind)) => Ok(Some(added(table, path, kind)?)),
+        (Some(kind), None) => Ok(Some(unsourced(path, Mark::Deleted, kind)?)),
+        (Some(_), Some(kind)) => Ok(Some(kept(table, path, kind)?)),
     }
 }
 
 /// A path at which a node is, and was none.
-fn added(table: &ChangeTable, path: &Path, now: &Place) -> Result<Changed, NoMemory>
+fn added(table: &ChangeTable, path: &Path, kind: Kind) -> Result<Changed, NoMemory>
     ensures { IfOk result (λ changed. changed
-        ≡ record {
-          path = path.now;
-          mark = marks.Added;
-          kind = now.now.node.kind;
-          source = source_of table.now path.now;
-        }) }
+        ≡ record { path = path.now; mark = marks.Added; kind = kind; source = source_of table.now path.now }) }
 {
     Ok(Changed {
         path: path.copy()?,
         mark: Mark::Added,
-        kind: now.node.get().kind,
+        kind,
         source: table.source(path)?,
     })
 }
 
-/// A path at which a node was, and is none.
-fn deleted(path: &Path, kind: Kind) -> Result<Changed, NoMemory>
-    ensures { IfOk result (λ changed.
-        changed ≡ record { path = path.now; mark = marks.Deleted; kind = kind; source = None }) }
+/// A path that was changed by no copy.
+fn unsourced(path: &Path, mark: Mark, kind: Kind) -> Result<Changed, NoMemory>
+    ensures { IfOk result (λ changed. changed
+        ≡ record { path = path.now; mark = mark; kind = kind; source = None }) }
 {
     Ok(Changed {
         path: path.copy()?,
-        mark: Mark::Deleted,
+        mark,
         kind,
         source: None,
     })
 }
 
 /// A path at which a node is and was.
-fn kept(table: &ChangeTable, path: &Path, now: &Place) -> Result<Changed, NoMemory>
+fn kept(table: &ChangeTable, path: &Path, kind: Kind) -> Result<Changed, NoMemory>
     ensures { IfOk result (λ changed. changed
-        ≡ kept_as path.now (source_of table.now path.now) (node_of now.now)
-        (is_some (deleted table.now path.now))) }
+        ≡ kept_kind path.now (source_of table.now path.now) kind (is_some (deleted table.now path.now))) }
 {
-    let kind = now.node.get().kind;
     if table.is_deleted(path) {
         return Ok(Changed {
             path: path.copy()?,
@@ -122,10 +140,5 @@ fn kept(table: &ChangeTable, path: &Path, now: &Place) -> Result<Changed, NoMemo
             source: table.source(path)?,
         });
     }
-    Ok(Changed {
-        path: path.copy()?,
-        mark: Mark::Modified,
-        kind,
-        source: None,
-    })
+    unsourced(path, Mark::Modified, kind)
 }

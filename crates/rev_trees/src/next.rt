@@ -1,89 +1,86 @@
-ghost use Rattle.std.specs.Prelude.{◌≡◌, ℕ, ◌-◌, ◌<◌, ◌≤◌, IsTrue, IfOk, length};
-ghost use Rattle.rev_nodes.specs.Fitting.{in_order};
-ghost use Rattle.rev_trees.specs.Flat.{tree_in, fault_of, AppliesAll};
-ghost use Rattle.rev_trees.specs.Kept.{trees_in, places_in, AreKept};
-ghost use Rattle.rev_nodes.specs.Formed.{IsFormed};
-ghost use Rattle.rev_trees.specs.Made.{Makes};
+ghost use Rattle.std.specs.Prelude.{◌≡◌, ◌≤◌, ◌*◌, [], OnOk, length};
+ghost use Rattle.rev_nodes.specs.Changes.{apply_from};
+ghost use Rattle.tree_edits.specs.Edits.{AreShown};
+ghost use Rattle.tree_edits.specs.AreEdits.{AreEdits};
+ghost use Rattle.rev_trees.specs.Kept.{trees_in, youngest, AreKept};
+ghost use Rattle.rev_trees.specs.Made.{fault_of, AppliesAll, Makes};
 
 use crate::changed_list::changed_paths;
-use crate::edits::apply;
-use crate::listed::entries_of;
-use crate::place::Place;
 use crate::push_fault::PushFault;
-use crate::revision::FlatRevision;
-use crate::shared::Shared;
-use dsv_base::{List, NoMemory, Rev};
-use rev_nodes::{Change, Commit, Unfit};
+use crate::revision::{KeptRevision, source_root, youngest_root};
+use dsv_base::Rev;
+use rev_nodes::{Cell, Change, Commit, Unfit};
 use std::alloc::Global;
+use tree_edits::Edits;
+use tree_settling::settle;
 
-/// The places that a revision has at most: so the number of a node tells its revision.
-pub const SPAN: u64 = 4_294_967_296;
+/// A revision that was made, and its nodes, which stand behind those of the table.
+#[derive(Drop)]
+pub struct NextRevision {
+    pub revision: KeptRevision,
+    pub cells: Vec<Cell>,
+}
 
 /// The revision of a commit after those so far.
 pub fn next_revision(
     alloc: Global,
-    revisions: &[FlatRevision],
+    cells: &[Cell],
+    revisions: &[KeptRevision],
     commit: Commit,
     rev: Rev,
-) -> Result<FlatRevision, PushFault>
-    requires kept { AreKept revisions.now }
+) -> Result<NextRevision, PushFault>
+    requires kept { AreKept cells.now revisions.now }
     requires number { rev ≡ length revisions.now }
     requires few { length commit.changes ≤ 4294967295 }
-    ensures { Makes revisions.now commit result }
+    ensures { Makes cells.now (trees_in revisions.now) commit result }
 {
-    let before = youngest_places(revisions);
-    let mut places = shares(alloc, before)?;
-    apply_all(alloc, &mut places, revisions, commit.changes.get(), rev)?;
-    if places.len() as u64 > SPAN {
-        return Err(PushFault::NoMemory);
-    }
-    let entries = entries_of(alloc, rev, places.as_slice())?;
-    let changed = changed_paths(alloc, commit.changes.get(), before, places.as_slice())?;
-    Ok(FlatRevision {
-        commit,
-        changed,
-        places: List::of(places),
-        entries,
+    let before = youngest_root(revisions);
+    let mut edits = Edits::on(alloc, before);
+    apply_all(
+        alloc,
+        &mut edits,
+        cells,
+        revisions,
+        commit.changes.get(),
+        rev,
+    )?;
+    let (more, root) = settle(alloc, cells, &edits, rev)?;
+    let changed = changed_paths(alloc, commit.changes.get(), cells, before, &edits)?;
+    Ok(NextRevision {
+        revision: KeptRevision {
+            commit,
+            changed,
+            root,
+        },
+        cells: more,
     })
-}
-
-/// The places of the youngest revision.
-fn youngest_places(revisions: &[FlatRevision]) -> &[Shared<Place>]
-    requires { 1 ≤ length revisions.now }
-    ensures { result.now ≡ places_in revisions.now (length revisions.now - 1) }
-{
-    revisions[revisions.len() - 1].places.get()
-}
-
-/// The same places once more.
-fn shares(alloc: Global, places: &[Shared<Place>]) -> Result<Vec<Shared<Place>>, NoMemory>
-    ensures { IfOk result (λ new. new.items ≡ places.now) }
-{
-    let mut new = Vec::with_capacity(alloc, places.len())?;
-    'places: for place in places {
-        new.push(place.share()?)?;
-    }
-    Ok(new)
 }
 
 /// Does the changes in order, up to the first that doesn't fit.
 fn apply_all(
     alloc: Global,
-    places: &mut Vec<Shared<Place>>,
-    revisions: &[FlatRevision],
+    edits: &mut Edits,
+    cells: &[Cell],
+    revisions: &[KeptRevision],
     changes: &[Change],
     rev: Rev,
 ) -> Result<(), PushFault>
-    requires sorted { IsTrue (in_order (tree_in places.old.items)) }
-    requires kept { (r : ℕ) → IsTrue (in_order (tree_in (places_in revisions.now r))) }
-    requires formed { IsFormed (tree_in places.old.items) }
-    requires sources { (r : ℕ) → r < length revisions.now → IsFormed (tree_in (places_in revisions.now r)) }
+    requires kept { AreKept cells.now revisions.now }
+    requires number { rev ≡ length revisions.now }
+    requires are { AreEdits rev cells.now edits.old }
+    requires none { edits.old.touched ≡ [] }
+    requires shown { AreShown cells.now edits.old (youngest (trees_in revisions.now)) }
     requires few { length changes.now ≤ 4294967295 }
-    ensures { AppliesAll rev changes.now (trees_in revisions.now) places.old.items places.new.items result }
+    ensures are { OnOk result (AreEdits rev cells.now edits.new) }
+    ensures few { OnOk result (length edits.new.touched ≤ 65 * length changes.now) }
+    ensures says { AppliesAll
+        (apply_from 0 changes.now (trees_in revisions.now) (youngest (trees_in revisions.now)) rev)
+        cells.now edits.new result }
 {
     let mut index: u32 = 0;
     'changes: for change in changes {
-        match apply(alloc, places, revisions, change, rev) {
+        let from = source_root(revisions, change);
+        match edits.apply(alloc, cells, from, change, rev) {
             Ok(()) => index += 1,
             Err(why) => return Err(fault_of(why, index)),
         }

@@ -1,33 +1,23 @@
-ghost use Rattle.std.specs.Prelude.{◌≡◌, ◌+◌, ◌<◌, ◌≤◌, ◌/◌, ◌%◌, IsTrue, IfOk, [], ◌∷◌, length, slice_index_or};
-ghost use Rattle.std.specs.Option.{option_map, SomeIff};
-ghost use Rattle.std.specs.FinMap.{find};
-ghost use Rattle.std.specs.Ordering.{nat_cmp};
-ghost use Rattle.std.specs.Cmp.Lexicographic.{slice_cmp};
-ghost use Rattle.rev_nodes.specs.Trees.{at};
+ghost use Rattle.std.specs.Prelude.{◌≡◌, ◌+◌, ◌<◌, ◌≤◌, ℕ, IsTrue, IfOk, [], ◌∷◌, length};
+ghost use Rattle.std.specs.Option.{SomeIff};
+ghost use Rattle.dsv_base.specs.Paths.{is_path};
+ghost use Rattle.node_table.specs.Tables.{cell_at};
 ghost use Rattle.rev_nodes.specs.Pushes.{first_revision};
-ghost use Rattle.rev_nodes.specs.Forests.{Numbered, id_at, line_at, revision_at, repository_of, IsId, IsNodeOf};
+ghost use Rattle.rev_nodes.specs.Forests.{id_at, line_at, revision_at, repository_of, IsId, IsNodeOf};
 ghost use Rattle.rev_nodes.specs.Entries.{AreEntriesOf, HasNoneInFile, IsSound};
 ghost use Rattle.rev_nodes.specs.Formed.{AreFormed};
 ghost use Rattle.rev_nodes.specs.Commits.{IsSoundCommit, IsCommitOf, AreCommits};
 ghost use Rattle.rev_nodes.specs.SoundNodes.{AreSoundNodes};
 ghost use Rattle.rev_nodes.specs.Subtrees.{HaveEqualSubtrees};
 ghost use Rattle.rev_trees.specs.Readies.{IsReadyOn, IsUnchanged, Prepares, Pushes};
-ghost use Rattle.rev_trees.specs.Kept.{places_in, lists_in, no_flat_revision, root_place};
-ghost use Rattle.rev_trees.specs.Numbers.{numbered_from};
-ghost use Rattle.rev_nodes.specs.Fitting.{in_order};
-ghost use Rattle.rev_trees.specs.Flat.{tree_in};
 
-use crate::copies::copy_line;
-use crate::entry_list::EntryList;
-use crate::next::{SPAN, next_revision};
-use crate::place::Place;
-use crate::places::{place_at, search};
+use crate::next::next_revision;
 use crate::push_fault::PushFault;
 use crate::ready::Ready;
-use crate::revision::FlatRevision;
-use crate::shared::Shared;
+use crate::revision::{KeptRevision, revision_of};
 use dsv_base::{Bytes, List, NoMemory, Path, Rev};
-use rev_nodes::{Changed, Commit, Entry, Kind, Line, Node, NodeId};
+use node_table::Table;
+use rev_nodes::{Changed, Commit, Entry, Line, Node, NodeId};
 use std::alloc::Global;
 use std::marker::Model;
 
@@ -35,13 +25,14 @@ use std::marker::Model;
 ///
 /// Contracts see each revision as its record and its flat tree, a list of paths with nodes in byte
 /// order of the path, and beside each node its number. One number may stand at several places; the
-/// nodes there are then alike.
+/// nodes there are then alike. They see all nodes that were ever made too, by number.
 #[derive(Debug, Drop)]
 pub struct Trees {
     alloc: Global,
     name: Bytes,
     uuid: Bytes,
-    revisions: Vec<FlatRevision>,
+    revisions: Vec<KeptRevision>,
+    table: Table,
 }
 
 impl Model for Trees {
@@ -51,10 +42,10 @@ impl Model for Trees {
 
     ghost Value = { Forest };
 
-    ghost view = { λ t.
-        forest_of t.name t.uuid t.revisions.items (vec_capacity t.revisions - vec_len t.revisions) };
+    ghost view = { λ t. forest_of t.name t.uuid t.table.cells t.revisions.items
+        (vec_capacity t.revisions - vec_len t.revisions) t.table.room };
 
-    ghost invariant = { λ t. AreKept t.revisions.items };
+    ghost invariant = { λ t. AreKept t.table.cells t.revisions.items };
 }
 
 impl Trees {
@@ -67,12 +58,15 @@ impl Trees {
     {
         let name = Bytes::of(alloc, name)?;
         let uuid = Bytes::of(alloc, uuid)?;
-        let revisions = first_revisions(alloc, first)?;
+        let mut table = Table::new(alloc);
+        let root = table.add_root(alloc, zeroth())?;
+        let revisions = first_revisions(alloc, first, root)?;
         Ok(Trees {
             alloc,
             name,
             uuid,
             revisions,
+            table,
         })
     }
 
@@ -101,14 +95,23 @@ impl Trees {
         }
     }
 
+    /// How many nodes were ever made. The number of each is below that.
+    pub fn node_count(&self) -> u64
+        ensures { result ≡ length self.now.nodes }
+    {
+        self.table.count()
+    }
+
     /// What holds of all trees. They are formed; their nodes and commits are sound; they stand in
-    /// order, and what has one number is alike; and so equal numbers have equal subtrees.
+    /// order, and what has one number is alike; so equal numbers have equal subtrees; and each number
+    /// is one of the nodes.
     pub fn learn(&self)
         ensures formed { AreFormed self.now }
         ensures nodes { AreSoundNodes self.now }
         ensures commits { AreCommits self.now }
         ensures sound { IsSound self.now }
         ensures subtrees { HaveEqualSubtrees self.now }
+        ensures numbers { (id : ℕ) → IsId self.now id → id < length self.now.nodes }
     {
         let _alloc = self.alloc;
     }
@@ -137,10 +140,8 @@ impl Trees {
         requires { rev < length self.now.revisions }
         ensures { IfOk result (λ line. line ≡ line_at self.now rev path.now) }
     {
-        line_of(
-            places_of(self.revisions.as_slice(), rev.get() as usize),
-            path,
-        )
+        let root = revision_of(self.revisions.as_slice(), rev.get() as usize).root;
+        self.table.line(root, known(path))
     }
 
     /// The node at a path of a revision, by its number.
@@ -148,12 +149,8 @@ impl Trees {
         requires { rev < length self.now.revisions }
         ensures { result ≡ id_at self.now rev path.now }
     {
-        let number = rev.get();
-        number_of(
-            number,
-            places_of(self.revisions.as_slice(), number as usize),
-            path,
-        )
+        let root = revision_of(self.revisions.as_slice(), rev.get() as usize).root;
+        self.table.look(root, known(path))
     }
 
     /// What stands in the node of this number, in byte order of the paths, and so of the names; nothing
@@ -163,20 +160,22 @@ impl Trees {
         ensures are { AreEntriesOf self.now id result.now }
         ensures none { HasNoneInFile self.now id result.now }
         ensures sound { IsSound self.now }
+        ensures stored { result.now ≡ (cell_at self.now.nodes id).entries }
     {
-        list_of(self.revisions.as_slice(), id.get())
+        self.table.entries(id)
     }
 
     /// The node of this number.
     pub fn node(&self, id: NodeId) -> &Node
         requires { IsId self.now id }
-        ensures { IsNodeOf self.now id result.now }
+        ensures is { IsNodeOf self.now id result.now }
+        ensures stored { result.now ≡ (cell_at self.now.nodes id).node }
     {
-        place_of(self.revisions.as_slice(), id.get()).node.get()
+        self.table.node(id)
     }
 
     /// Makes the next revision of a commit, and room for it, so that its push takes no memory. The
-    /// trees stay as they are.
+    /// trees and their nodes stay as they are.
     ///
     /// [`PushFault::FullRevisions`] comes exactly where the youngest revision is 2,000,000,000, before
     /// the changes are tried; [`PushFault::Unfit`] has the number of the first change that doesn't fit.
@@ -191,8 +190,10 @@ impl Trees {
             None => return Err(PushFault::FullRevisions),
         };
         self.revisions.reserve(1)?;
-        let revision = next_revision(self.alloc, self.revisions.as_slice(), commit, rev)?;
-        Ok(Ready::of(rev, revision, &self.revisions))
+        let cells = self.table.cells();
+        let next = next_revision(self.alloc, cells, self.revisions.as_slice(), commit, rev)?;
+        self.table.reserve(next.cells.len())?;
+        Ok(Ready::of(rev, next, &*self))
     }
 
     /// Adds the revision that is ready, and answers its number. It takes no memory, and the other
@@ -202,7 +203,8 @@ impl Trees {
         ensures number { result ≡ length self.old.revisions }
         ensures pushes { Pushes ready self.old self.new }
     {
-        let (rev, revision) = ready.parts();
+        let (rev, revision, cells) = ready.parts();
+        self.table.append(cells);
         match self.revisions.push(revision) {
             Ok(()) => rev,
             Err(_) => unreachable!(),
@@ -220,54 +222,32 @@ fn next_rev(count: usize) -> Option<Rev>
     Rev::of(count as u32)
 }
 
-/// Revision 0: the root alone.
-fn first_revisions(alloc: Global, first: Commit) -> Result<Vec<FlatRevision>, NoMemory>
+/// The revisions that a repository begins with: one, whose tree is that of a root.
+fn first_revisions(
+    alloc: Global,
+    first: Commit,
+    root: NodeId,
+) -> Result<Vec<KeptRevision>, NoMemory>
     ensures { IfOk result (λ revisions. revisions.items
-        ≡ record { commit = first; changed = []; places = root_place ∷ []; entries = [] ∷ [] } ∷ []) }
+        ≡ record { commit = first; changed = []; root = root } ∷ []) }
 {
-    let mut places = Vec::new(alloc);
-    places.push(root_place(alloc)?)?;
-    let entries = root_entries(alloc)?;
-    let revision = FlatRevision {
+    let revision = KeptRevision {
         commit: first,
         changed: List::of(Vec::new(alloc)),
-        places: List::of(places),
-        entries,
+        root,
     };
     let mut revisions = Vec::new(alloc);
     revisions.push(revision)?;
     Ok(revisions)
 }
 
-/// What stands in the root of revision 0: nothing.
-fn root_entries(alloc: Global) -> Result<List<EntryList>, NoMemory>
-    ensures { IfOk result (λ lists. lists ≡ [] ∷ []) }
+/// The path, of which is known that it is one.
+fn known(path: &Path) -> &Path
+    ensures same { result.now ≡ path.now }
+    ensures path { IsTrue (is_path path.now) }
 {
-    let mut lists = Vec::new(alloc);
-    lists.push(EntryList::new(alloc))?;
-    Ok(List::of(lists))
-}
-
-/// The root as revision 0 has it.
-fn root_place(alloc: Global) -> Result<Shared<Place>, NoMemory>
-    ensures { IfOk result (λ place. place ≡ root_place) }
-{
-    let zeroth = zeroth();
-    let node = Node {
-        kind: Kind::Dir,
-        props: List::of(Vec::new(alloc)),
-        text: Bytes::from_vec(Vec::new(alloc)),
-        created: zeroth,
-    };
-    let place = Place {
-        path: Path::root(alloc)?,
-        node: Shared::of(alloc, node)?,
-        line: Line {
-            since: zeroth,
-            source: None,
-        },
-    };
-    Shared::of(alloc, place)
+    let _text = path.text();
+    path
 }
 
 /// The number of the first revision.
@@ -278,62 +258,4 @@ fn zeroth() -> Rev
         Some(rev) => rev,
         None => unreachable!(),
     }
-}
-
-fn revision_of(revisions: &[FlatRevision], rev: usize) -> &FlatRevision
-    requires { rev < length revisions.now }
-    ensures { result.now ≡ slice_index_or revisions.now rev no_flat_revision }
-{
-    &revisions[rev]
-}
-
-/// The places of a revision.
-fn places_of(revisions: &[FlatRevision], rev: usize) -> &[Shared<Place>]
-    requires { rev < length revisions.now }
-    ensures { result.now ≡ places_in revisions.now rev }
-{
-    revision_of(revisions, rev).places.get()
-}
-
-/// The place that a number names.
-fn place_of(revisions: &[FlatRevision], number: u64) -> &Place
-    requires { number % 4294967296 < length (places_in revisions.now (number / 4294967296)) }
-    ensures { (d : _)
-        → result.now ≡ slice_index_or (places_in revisions.now (number / 4294967296)) (number % 4294967296) d }
-{
-    let revision = &revisions[(number / SPAN) as usize];
-    revision.places.get()[(number % SPAN) as usize].get()
-}
-
-/// The number of the node at a path of the revision of this number.
-fn number_of(rev: u32, places: &[Shared<Place>], path: &Path) -> Option<NodeId>
-    requires short { length places.now ≤ 4294967296 }
-    requires sorted { IsTrue (in_order (tree_in places.now)) }
-    ensures { result
-        ≡ option_map (λ p. p.id) (find (slice_cmp nat_cmp) path.now (numbered_from rev 0 places.now)) }
-{
-    match search(places, path.text()) {
-        Ok(index) => Some(NodeId::of(u64::from(rev) * SPAN + index as u64)),
-        Err(_) => None,
-    }
-}
-
-/// Where the line of the node at the path begins.
-fn line_of(places: &[Shared<Place>], path: &Path) -> Result<Option<Line>, NoMemory>
-    requires { IsTrue (in_order (tree_in places.now)) }
-    ensures { IfOk result (λ line. line ≡ option_map (λ found. found.line) (at path.now (tree_in places.now))) }
-{
-    match place_at(places, path.text()) {
-        Some(place) => Ok(Some(copy_line(&place.line)?)),
-        None => Ok(None),
-    }
-}
-
-/// The entries of the place that a number names.
-fn list_of(revisions: &[FlatRevision], number: u64) -> &[Entry]
-    requires { number % 4294967296 < length (lists_in revisions.now (number / 4294967296)) }
-    ensures { result.now ≡ slice_index_or (lists_in revisions.now (number / 4294967296)) (number % 4294967296) [] }
-{
-    let revision = &revisions[(number / SPAN) as usize];
-    revision.entries.get()[(number % SPAN) as usize].get()
 }

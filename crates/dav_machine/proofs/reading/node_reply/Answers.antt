@@ -19,7 +19,7 @@ returns-in_ok-content_reply-in-File-clause-value c =
     let path = c.args.at.now.path.now in
     let node = c.node-node.result.now in
     let shown : Shown = shown_of (repository_of trees) rules user in
-    let found : node_at trees rev path ≡ Some node = ap (λ (f : Forest). node_at f rev path) (sym c.trees.ensures) ∙ c.node-node.ensures rev path (ap (λ (f : Forest). id_at f rev path) c.trees.ensures ∙ c.requires.number) in
+    let found : node_at trees rev path ≡ Some node = ap (λ (f : Forest). node_at f rev path) (sym c.trees.ensures) ∙ c.node-node.ensures.is rev path (ap (λ (f : Forest). id_at f rev path) c.trees.ensures ∙ c.requires.number) in
     get_found trees rules user rev path c.args.at.now.resource.now node c.requires.readable found
     ∙ ap (λ (kind : Kind). Ok (node_reply shown c.args.at.now.resource.now rev path node kind)) c.in-File.is
     ∙ ap (λ (reply : Reply). Ok reply) (sym (c.in_ok-content_reply-in-File.ensures.value ∙ (λ i. content_reply ((c.media_type.ensures ∙ ap media_type c.get.ensures) i) (c.in_ok-text-in-File.ensures i))))
@@ -34,7 +34,7 @@ returns-in_ok-content_reply-in-Dir-clause-value c =
     let path = c.args.at.now.path.now in
     let node = c.node-node.result.now in
     let shown : Shown = shown_of (repository_of trees) rules user in
-    let found : node_at trees rev path ≡ Some node = ap (λ (f : Forest). node_at f rev path) (sym c.trees.ensures) ∙ c.node-node.ensures rev path (ap (λ (f : Forest). id_at f rev path) c.trees.ensures ∙ c.requires.number) in
+    let found : node_at trees rev path ≡ Some node = ap (λ (f : Forest). node_at f rev path) (sym c.trees.ensures) ∙ c.node-node.ensures.is rev path (ap (λ (f : Forest). id_at f rev path) c.trees.ensures ∙ c.requires.number) in
     get_found trees rules user rev path c.args.at.now.resource.now node c.requires.readable found
     ∙ ap (λ (kind : Kind). Ok (node_reply shown c.args.at.now.resource.now rev path node kind)) c.in-Dir.is
     ∙ ap (λ (reply : Reply). Ok reply) (sym (c.in_ok-content_reply-in-Dir.ensures.value ∙ ap (content_reply html_type) c.in_ok-page-in-Dir.ensures))

@@ -1,14 +1,20 @@
-use Rattle.rev_trees.proofs.Numbering.{look-of, length-of}
+use Rattle.std.proofs.Common.{◌≡◌, ◌<◌, Some, length, sym, subst, ◌∙◌, ap}
+use Rattle.node_table.specs.Ways.{names_in}
+use Rattle.node_table.specs.Tables.{reach}
+use Rattle.rev_trees.proofs.Viewed.{length-of}
+use Rattle.rev_trees.proofs.Learned.{look-of}
 use Rattle.rev_trees.proofs.trees.Trees.look.Goals as goal
 
-pub places_of-requires : goal.places_of-requires
-places_of-requires c = let e = length-of _ _ _ _ _ c.self.view_is in rw (c.as_slice.ensures.value, c.get-number.ensures.value, ← e) c.requires
+pub revision_of-requires : goal.revision_of-requires
+revision_of-requires c = let e = length-of c.self.inside.name c.self.inside.uuid c.self.inside.table.cells c.self.inside.revisions.items _ _ c.args.self.now c.self.view_is in rw (c.as_slice.ensures.value, c.get.ensures.value, ← e) c.requires
 
-pub number_of-requires-clause-short : goal.number_of-requires-clause-short
-number_of-requires-clause-short c = rw (c.places_of.ensures, c.as_slice.ensures.value) (c.self.invariant.flat c.get-number.result).short
-
-pub number_of-requires-clause-sorted : goal.number_of-requires-clause-sorted
-number_of-requires-clause-sorted c = rw (c.places_of.ensures, c.as_slice.ensures.value) (c.self.invariant.flat c.get-number.result).sorted
+pub look-requires : goal.look-requires
+look-requires c =
+    let below = subst (λ n. c.args.rev < n) (length-of c.self.inside.name c.self.inside.uuid c.self.inside.table.cells c.self.inside.revisions.items _ _ c.args.self.now c.self.view_is) c.requires in
+    rw (c.revision_of.ensures, c.as_slice.ensures.value, c.get.ensures.value) (c.self.invariant.kept c.args.rev below).within
 
 pub returns : goal.returns
-returns c = rw (c.number_of.ensures, c.places_of.ensures, c.as_slice.ensures.value, c.get-number.ensures.value) (look-of c.self.inside.name c.self.inside.uuid _ c.self.inside.revisions.items c.args.self.now c.args.rev c.args.path.now c.self.view_is)
+returns c =
+    let below = subst (λ n. c.args.rev < n) (length-of c.self.inside.name c.self.inside.uuid c.self.inside.table.cells c.self.inside.revisions.items _ _ c.args.self.now c.self.view_is) c.requires in
+    (rw (c.known.ensures.same, c.revision_of.ensures, c.as_slice.ensures.value, c.get.ensures.value) at c.look.ensures)
+    ∙ look-of c.self.inside.name c.self.inside.uuid c.self.inside.table.cells c.self.inside.revisions.items _ _ c.args.self.now c.self.view_is c.self.invariant c.args.rev c.args.path.now below c.known.ensures.path
