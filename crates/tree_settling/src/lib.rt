@@ -1,0 +1,13 @@
+//! Edits over a tree of the table, settled into new cells of the table.
+#![tactic(auto)]
+
+mod adding;
+mod copies;
+mod listing;
+mod made;
+mod merging;
+mod settling;
+mod touch;
+
+pub use settling::settle_touches;
+pub use touch::Touch;
