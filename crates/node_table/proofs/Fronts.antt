@@ -1,14 +1,13 @@
 -- A path is under another exactly where its names begin with that one's.
-use Rattle.std.proofs.Common.{◌≡◌, ℕ, zero, suc, ◌<◌, Bool, true, false, ◌&&◌, ◌||◌, List, [], ◌∷◌, ◌++◌, length, drop, nat_eq, refl, sym, ap, subst, ◌∙◌, arith, append_assoc, length-append, append-nil}
-use Rattle.std.specs.Prelude.{if◌then◌else◌}
-use Rattle.std.specs.List.{list_any, starts_with}
+use Rattle.std.proofs.Common.{◌≡◌, ℕ, Bool, true, false, ◌||◌, List, [], ◌∷◌, ◌++◌, length, drop, nat_eq, refl, sym, ap, subst, ◌∙◌, append_assoc, append-nil}
+use Rattle.std.specs.List.{starts_with}
 use Rattle.std.specs.Str.{bytes_eq}
-use Rattle.std.proofs.lemmas.Bool.{and_parts, and_from, or_left, false_from_ne_true}
+use Rattle.std.proofs.lemmas.Bool.{and_parts, and_from, false_from_ne_true}
 use Rattle.std.proofs.lemmas.Bool.Decides.{Decides-eqb}
 use Rattle.std.proofs.lemmas.Slice.Eq.{starts_is}
-use Rattle.dsv_base.specs.Paths.{is_component, is_slash, is_under, root_text, components, front_of, join_text}
+use Rattle.dsv_base.specs.Paths.{is_component, is_under, root_text, components, front_of, join_text}
 use Rattle.dsv_base.proofs.Joins.{component_slash, component_some, components-append, components-one}
-use Rattle.rev_nodes.proofs.Below.{same_from, equal_itself, differ, front_long}
+use Rattle.rev_nodes.proofs.Below.{same_from, equal_itself, differ}
 use Rattle.node_table.specs.Ways.{Name, are_names, path_at, is_front, names_in}
 use Rattle.node_table.proofs.Ways.{path_at-append, join-front, front-join, under-names}
 

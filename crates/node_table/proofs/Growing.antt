@@ -1,16 +1,16 @@
 -- What a growing table shows stays as it was.
-use Rattle.std.proofs.Common.{◌≡◌, ℕ, zero, suc, ◌+◌, ◌<◌, ◌≤◌, Bool, true, false, List, [], ◌∷◌, ◌++◌, Option, None, Some, length, map, refl, sym, ap, subst, ◌∙◌, arith, inl, inr, length-append}
-use Rattle.std.specs.Prelude.{IsTrue, nat_le}
-use Rattle.std.specs.Option.{option_map, option_and_then}
+use Rattle.std.proofs.Common.{◌≡◌, ℕ, zero, suc, ◌<◌, ◌≤◌, false, List, [], ◌∷◌, ◌++◌, Option, None, Some, length, get_or, refl, sym, ap, subst, ◌∙◌, arith, inl, inr, length-append}
+use Rattle.std.specs.Prelude.{IsTrue}
+use Rattle.std.specs.Option.{option_map}
 use Rattle.std.proofs.lemmas.Bool.{cases_lt}
+use Rattle.rev_nodes.specs.declared.entry.Entry.{Entry}
 use Rattle.rev_nodes.specs.declared.line.Line.{Line}
 use Rattle.rev_nodes.specs.Trees.{TreeNode, is_dir_kind}
-use Rattle.std.specs.FinMap.{is_sorted}
-use Rattle.std.specs.Ordering.{nat_cmp}
-use Rattle.std.specs.Cmp.Lexicographic.{slice_cmp}
 use Rattle.rev_nodes.specs.declared.cell.Cell.{Cell}
 use Rattle.node_table.specs.Ways.{Name}
-use Rattle.node_table.specs.Tables.{pair, cell_at, no_cell, child, child_in, reach, Spot, spot_in, below_line, step, walk, node_at, seen, IsChild, IsCell, IsSound}
+use Rattle.node_table.specs.Heights.{height_below, higher}
+use Rattle.node_table.specs.Tables.{are_in_order, height_over, cell_at, no_cell, child, child_in, reach, Spot, spot_in, below_line, step, walk, node_at, seen, IsCell, IsSound}
+use Rattle.node_table.proofs.EntriesFound.{own_entry}
 
 pub cell_at-kept : (cells more : List Cell) (id : ℕ) → id < length cells → cell_at (cells ++ more) id ≡ cell_at cells id
 cell_at-kept [] more id h = absurd (omega (arith, h))
@@ -25,6 +25,13 @@ pub cell_at-past : (cells : List Cell) (id : ℕ) → length cells ≤ id → ce
 cell_at-past [] id h = refl
 cell_at-past (x ∷ cells) zero h = absurd (omega (arith, h))
 cell_at-past (x ∷ cells) (suc id) h = cell_at-past cells id (omega (arith, h))
+
+pub height_over-kept : (cells more : List Cell) (entries : List Entry) → ((k : ℕ) (d : Entry) → k < length entries → (get_or entries k d).id < length cells) → height_over (cells ++ more) entries ≡ height_over cells entries
+height_over-kept cells more [] within = refl
+height_over-kept cells more (e ∷ es) within =
+    let here : e.id < length cells = within 0 e (omega arith) in
+    let rest = height_over-kept cells more es (λ k d less. within (suc k) d (omega (arith, less))) in
+    λ i. higher (height_below e.name (cell_at-kept cells more e.id here i).height) (rest i)
 
 pub walk_none : (cells : List Cell) (ns : List Name) → walk cells None ns ≡ None
 walk_none cells [] = refl
@@ -86,7 +93,7 @@ module _ (cells : List Cell) (sound : IsSound cells) where
 
     pub cell_kept : (id : ℕ) → id < length cells → IsCell cells id → IsCell (cells ++ more) id
     cell_kept id h c = record {
-      sorted = subst (λ (x : Cell). IsTrue (is_sorted (slice_cmp nat_cmp) (map pair x.entries))) (sym (cell_at-kept cells more id h)) c.sorted;
+      sorted = subst (λ (x : Cell). IsTrue (are_in_order x.entries)) (sym (cell_at-kept cells more id h)) c.sorted;
       children = λ n i e.
           let old = c.children n i (sym (child_in-kept n id h) ∙ e) in
           record {
@@ -97,14 +104,17 @@ module _ (cells : List Cell) (sound : IsSound cells) where
           };
       file = subst (λ (x : Cell). is_dir_kind x.node.kind ≡ false → x.entries ≡ []) (sym (cell_at-kept cells more id h)) c.file;
       since = subst (λ (x : Cell). x.line.since ≤ x.node.created) (sym (cell_at-kept cells more id h)) c.since;
+      height = subst (λ (x : Cell). x.height ≡ height_over (cells ++ more) x.entries) (sym (cell_at-kept cells more id h)) (c.height ∙ sym (height_over-kept cells more (cell_at cells id).entries (λ k d less.
+          let low = (c.children _ _ (own_entry (cell_at cells id).entries c.sorted k d less)).lower in omega (arith, low, h))));
     }
 
 pub no_cell_sound : (cells : List Cell) (id : ℕ) → cell_at cells id ≡ no_cell → IsCell cells id
 no_cell_sound cells id e = record {
-  sorted = subst (λ (x : Cell). IsTrue (is_sorted (slice_cmp nat_cmp) (map pair x.entries))) (sym e) refl;
+  sorted = subst (λ (x : Cell). IsTrue (are_in_order x.entries)) (sym e) refl;
   children = λ n i f. absurd (let g = sym (ap (λ (x : Cell). child n x.entries) e) ∙ f in cc g);
   file = λ k. ap (λ (x : Cell). x.entries) e;
   since = subst (λ (x : Cell). x.line.since ≤ x.node.created) (sym e) (omega arith);
+  height = subst (λ (x : Cell). x.height ≡ height_over cells x.entries) (sym e) refl;
 }
 
 -- one cell more that is so

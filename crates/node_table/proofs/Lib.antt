@@ -1,9 +1,12 @@
 pub mod Ways
+pub mod EntriesFound
 pub mod Growing
 pub mod Fronts
 pub mod EntryLaws
 pub mod Marking
 pub mod PathNames
 pub mod Found
-pub mod Limited
+pub mod HeightLaws
+pub mod LineLaws
+pub mod Numbers
 pub mod Roots

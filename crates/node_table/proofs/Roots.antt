@@ -1,26 +1,24 @@
 -- A table with a root of its own shows the root alone.
-use Rattle.std.proofs.Common.{Result, Ok, Err, ◌≡◌, ℕ, ◌+◌, ◌<◌, ◌≤◌, Bool, true, false, cond, List, [], ◌∷◌, ◌++◌, None, Some, length, map, refl, sym, ap, subst, ◌∙◌, arith, length-append}
+use Rattle.std.proofs.Common.{Result, Ok, Err, ◌≡◌, ℕ, ◌≤◌, Bool, true, false, cond, List, [], ◌∷◌, ◌++◌, None, Some, length, refl, sym, ap, subst, ◌∙◌, arith, length-append}
 use Rattle.std.specs.Prelude.{IsTrue, IfOk, OnOk, OnErr, is_some}
 use Rattle.std.specs.Option.{option_map}
-use Rattle.std.specs.FinMap.{is_sorted}
 use Rattle.std.specs.Ordering.{nat_cmp, eq_by_cmp}
 use Rattle.std.specs.Cmp.Lexicographic.{slice_cmp}
 use Rattle.std.proofs.lemmas.Bool.{false_from_ne_true}
 use Rattle.std.specs.Str.{bytes_eq}
 use Rattle.dsv_base.specs.Paths.{parent_text, is_path, root_text}
 use Rattle.rev_nodes.specs.declared.kind.Kind.TheVariants.{Dir}
-use Rattle.rev_nodes.specs.Trees.{TreeNode, Tree, at, is_dir, new_dir, is_dir_kind}
+use Rattle.rev_nodes.specs.Trees.{TreeNode, Tree, at, is_dir, new_dir}
 use Rattle.rev_nodes.specs.Formed.{has_ordered_props, IsFormed}
-use Rattle.rev_nodes.proofs.Below.{equal_itself}
 use Rattle.rev_nodes.proofs.Forming.{tied}
 use Rattle.rev_nodes.specs.declared.cell.Cell.{Cell}
 use Rattle.node_table.specs.Ways.{Name, are_names, path_at}
-use Rattle.node_table.specs.Tables.{pair, cell_at, child, spot_in, node_at, seen, IsCell, IsSound}
+use Rattle.node_table.specs.Tables.{are_in_order, height_over, cell_at, child, spot_in, node_at, seen, IsSound}
 use Rattle.node_table.specs.Rebuilt.{root_spot}
 use Rattle.node_table.specs.Shown.{IsShown}
 use Rattle.node_table.specs.Steps.{IsBase, new_cell}
 use Rattle.node_table.proofs.Fronts.{not-root}
-use Rattle.node_table.proofs.Growing.{cell_at-next, cell_at-past, no_cell_sound, sound-more, walk_none}
+use Rattle.node_table.proofs.Growing.{cell_at-next, no_cell_sound, sound-more, walk_none}
 
 -- ---- for the code
 
@@ -61,10 +59,11 @@ module _ (r : ℕ) (old : List Cell) (cell : Cell) (cell_is : cell ≡ new_cell 
 
   pub root_sound : IsSound old → IsSound (old ++ cell ∷ [])
   root_sound sound = sound-more old cell sound (record {
-    sorted = subst (λ (c : Cell). IsTrue (is_sorted (slice_cmp nat_cmp) (map pair c.entries))) (sym here_is) refl;
+    sorted = subst (λ (c : Cell). IsTrue (are_in_order c.entries)) (sym here_is) refl;
     children = λ n i e. absurd (let f = ap (λ (c : Cell). child n c.entries) (sym here_is) ∙ e in cc f);
     file = λ k. ap (λ (c : Cell). c.entries) here_is;
     since = subst (λ (c : Cell). c.line.since ≤ c.node.created) (sym here_is) (omega arith);
+    height = subst (λ (c : Cell). c.height ≡ height_over (old ++ cell ∷ []) c.entries) (sym here_is) refl;
   })
 
   root_shown : IsShown (old ++ cell ∷ []) (length old) (root_tree r)

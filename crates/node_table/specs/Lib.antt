@@ -1,6 +1,10 @@
 pub mod Ways
+pub mod Heights
 pub mod Tables
 pub mod Rebuilt
 pub mod Shown
 pub mod Limits
 pub mod Steps
+pub mod Rooms
+pub mod Lines
+pub mod Numbers

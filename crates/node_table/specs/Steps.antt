@@ -7,12 +7,13 @@ use Rattle.rev_nodes.specs.declared.change.Change.TheVariants.{Put, SetProp, Del
 use Rattle.rev_nodes.specs.Trees.{Tree, tree_at}
 use Rattle.rev_nodes.specs.Fitting.{in_order}
 use Rattle.rev_nodes.specs.Formed.{IsFormed}
+use Rattle.node_table.specs.Heights.{no_height}
 use Rattle.node_table.specs.Tables.{cell_at, IsSound}
 use Rattle.node_table.specs.Shown.{IsShown}
 
 -- a cell that begins in this revision, by no copy, with nothing in it
 abbrev pub new_cell : ℕ → Kind → List ℕ → Cell
-new_cell r kind text = record { node = record { kind = kind; props = []; text = text; created = r }; line = record { since = r; source = None }; entries = [] }
+new_cell r kind text = record { node = record { kind = kind; props = []; text = text; created = r }; line = record { since = r; source = None }; entries = []; height = no_height }
 
 -- a root of the table that a change of this revision can begin at
 pub record IsBase (r : ℕ) (cells : List Cell) (root : ℕ) : Type 0 where

@@ -1,5 +1,5 @@
 -- A table of nodes that are linked by number.
-use Rattle.std.specs.Prelude.{ℕ, ◌≡◌, ◌<◌, ◌≤◌, nat_le, Bool, false, List, [], ◌∷◌, Option, None, Some, map, slice_index_or, IsTrue, not, if◌then◌else◌, filter}
+use Rattle.std.specs.Prelude.{ℕ, ◌≡◌, ◌<◌, ◌≤◌, nat_le, Bool, false, List, [], ◌∷◌, Option, None, Some, map, length, slice_index_or, IsTrue, not, if◌then◌else◌, filter}
 use Rattle.std.specs.Option.{option_map, option_and_then}
 use Rattle.std.specs.Str.{bytes_eq}
 use Rattle.std.specs.FinMap.{find, is_sorted}
@@ -9,12 +9,13 @@ use Rattle.std.specs.declared.cmp.Ordering.TheVariants.{Less, Equal, Greater}
 use Rattle.std.specs.Cmp.Lexicographic.{slice_cmp}
 use Rattle.dsv_base.specs.Paths.{is_component, join_text}
 use Rattle.rev_nodes.specs.declared.entry.Entry.{Entry}
+use Rattle.rev_nodes.specs.declared.height.Height.{Height}
 use Rattle.rev_nodes.specs.declared.kind.Kind.TheVariants.{File}
 use Rattle.rev_nodes.specs.declared.line.Line.{Line}
-use Rattle.rev_nodes.specs.declared.node.Node.{Node}
 use Rattle.rev_nodes.specs.Trees.{TreeNode, is_dir_kind}
 use Rattle.rev_nodes.specs.declared.cell.Cell.{Cell}
 use Rattle.node_table.specs.Ways.{Name}
+use Rattle.node_table.specs.Heights.{no_height, height_below, higher}
 
 -- an entry as a name with its number
 abbrev pub pair : Entry → Name × ℕ
@@ -24,9 +25,18 @@ pair e = (e.name, e.id)
 abbrev pub child : Name → List Entry → Option ℕ
 child n entries = find (slice_cmp nat_cmp) n (map pair entries)
 
+-- the entries rise by their names
+abbrev pub are_in_order : List Entry → Bool
+are_in_order entries = is_sorted (slice_cmp nat_cmp) (map pair entries)
+
+-- the entry of the name stands at this index
+pub record IsEntryAt (entries : List Entry) (name : Name) (index : ℕ) : Type 0 where
+  pub within : index < length entries
+  pub found : (d : Entry) → child name entries ≡ Some (slice_index_or entries index d).id
+
 -- past the end of the table stands a file without text
 abbrev pub no_cell : Cell
-no_cell = record { node = record { kind = File; props = []; text = []; created = 0 }; line = record { since = 0; source = None }; entries = [] }
+no_cell = record { node = record { kind = File; props = []; text = []; created = 0 }; line = record { since = 0; source = None }; entries = []; height = no_height }
 
 -- the cell of a number
 abbrev pub cell_at : List Cell → ℕ → Cell
@@ -46,9 +56,13 @@ pub record Spot : Type 0 where
   pub id : ℕ
   pub line : Line
 
+-- the line that a directory's gives to a name in it
+abbrev pub carried_line : Line → Name → Line
+carried_line above n = record { since = above.since; source = option_map (λ s. (join_text s.0 n, s.1)) above.source }
+
 -- the line of a place by that of its directory: the younger of the two, and its own where both are as young
 abbrev pub below_line : Line → Name → Line → Line
-below_line above n own = if nat_le above.since own.since then own else record { since = above.since; source = option_map (λ s. (join_text s.0 n, s.1)) above.source }
+below_line above n own = if nat_le above.since own.since then own else carried_line above n
 
 -- a number in the directory at a place
 abbrev pub spot_in : List Cell → Line → Name → ℕ → Spot
@@ -77,12 +91,18 @@ pub record IsChild (cells : List Cell) (id : ℕ) (n : Name) (i : ℕ) : Type 0 
   pub name : IsTrue (is_component n)
   pub older : (cell_at cells i).node.created ≤ (cell_at cells id).node.created
 
--- a directory's entries stand in order, and a file has none
+-- how long the longest ways are that begin with one of these entries
+abbrev pub height_over : List Cell → List Entry → Height
+height_over cells [] = no_height
+height_over cells (e ∷ es) = higher (height_below e.name (cell_at cells e.id).height) (height_over cells es)
+
+-- a directory's entries stand in order, and a file has none; the height is that of the longest ways through them
 pub record IsCell (cells : List Cell) (id : ℕ) : Type 0 where
-  pub sorted : IsTrue (is_sorted (slice_cmp nat_cmp) (map pair (cell_at cells id).entries))
+  pub sorted : IsTrue (are_in_order (cell_at cells id).entries)
   pub children : (n : Name) (i : ℕ) → child_in cells n id ≡ Some i → IsChild cells id n i
   pub file : is_dir_kind (cell_at cells id).node.kind ≡ false → (cell_at cells id).entries ≡ []
   pub since : (cell_at cells id).line.since ≤ (cell_at cells id).node.created
+  pub height : (cell_at cells id).height ≡ height_over cells (cell_at cells id).entries
 
 -- each cell of the table is so
 abbrev pub IsSound : List Cell → Type 0

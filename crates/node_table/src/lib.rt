@@ -1,14 +1,18 @@
 //! One growing table of nodes that the trees of a repository share, and what is read of it.
 #![tactic(auto)]
 
-mod limits;
+mod depths;
+mod heights;
+mod lines;
 mod names;
 mod new_cells;
 mod places;
 mod reading;
 mod table;
 
-pub use limits::{depth, fits_below};
+pub use depths::depth;
+pub use heights::{fits_below, height_of, height_with};
+pub use lines::line_at;
 pub use names::first_name;
 pub use places::{below_root, place_at};
 pub use reading::{cell_of, child_at};

@@ -2,7 +2,7 @@ ghost use Rattle.std.specs.Prelude.{◌≡◌};
 ghost use Rattle.node_table.specs.Steps.{new_cell};
 
 use dsv_base::{Bytes, List, Rev};
-use rev_nodes::{Cell, Kind, Line, Node};
+use rev_nodes::{Cell, Height, Kind, Line, Node};
 use std::alloc::Global;
 
 /// A cell that begins in this revision, by no copy, without properties and with nothing in it.
@@ -21,5 +21,6 @@ pub fn new_cell(alloc: Global, kind: Kind, text: Bytes, rev: Rev) -> Cell
             source: None,
         },
         entries: List::of(Vec::new(alloc)),
+        height: Height { names: 0, bytes: 0 },
     }
 }

@@ -1,6 +1,8 @@
-ghost use Rattle.std.specs.Prelude.{◌≡◌, ◌<◌, ℕ, Some, length};
+ghost use Rattle.std.specs.Prelude.{◌≡◌, ◌<◌, Some, None, length, IsTrue, IfOk, OnErr};
+ghost use Rattle.std.specs.Ordering.{nat_cmp};
+ghost use Rattle.std.specs.Cmp.Lexicographic.{slice_cmp};
 ghost use Rattle.dsv_base.specs.Paths.{components};
-ghost use Rattle.node_table.specs.Tables.{cell_at, child, child_in, reach, IsSound};
+ghost use Rattle.node_table.specs.Tables.{cell_at, child, are_in_order, IsEntryAt, child_in, reach, IsSound};
 
 use crate::names::first_name;
 use rev_nodes::{Cell, Entry, NodeId};
@@ -14,22 +16,35 @@ pub fn cell_of(cells: &[Cell], id: NodeId) -> &Cell
     &cells[id.get() as usize]
 }
 
-/// The number of the entry with a name.
-pub fn child_of(entries: &[Entry], name: &[u8]) -> Option<NodeId>
+/// Where a name stands among entries in order, or else where it would stand.
+fn search(entries: &[Entry], name: &[u8]) -> Result<usize, usize>
+    requires { IsTrue (are_in_order entries.now) }
+    ensures found { IfOk result (IsEntryAt entries.now name.now) }
+    ensures missing { OnErr result (child name.now entries.now ≡ None) }
+{
+    entries.binary_search_by(
+        |other: &Entry| -> Ordering
+            ensures { result ≡ slice_cmp nat_cmp other.now.name name.entry.now }
+        { other.name.get().cmp(name) },
+    )
+}
+
+/// The number of the entry with a name, among entries in order.
+#[tactic(auto, using(crate::proofs::EntriesFound::child_of_found))]
+fn child_of(entries: &[Entry], name: &[u8]) -> Option<NodeId>
+    requires { IsTrue (are_in_order entries.now) }
     ensures { result ≡ child name.now entries.now }
 {
-    'entries: for entry in entries {
-        match name.cmp(entry.name.get()) {
-            Ordering::Equal => return Some(entry.id),
-            _ => {}
-        }
+    match search(entries, name) {
+        Ok(index) => Some(entries[index].id),
+        Err(_) => None,
     }
-    None
 }
 
 /// The number at a name in a directory.
 pub fn child_at(cells: &[Cell], id: NodeId, name: &[u8]) -> Option<NodeId>
-    requires { id < length cells.now }
+    requires sound { IsSound cells.now }
+    requires within { id < length cells.now }
     ensures { result ≡ child_in cells.now name.now id }
 {
     child_of(cell_of(cells, id).entries.get(), name)

@@ -1,27 +1,24 @@
 -- Equal numbers have equal subtrees.
-use Rattle.std.proofs.Common.{◌≡◌, ℕ, zero, suc, ◌<◌, ◌≤◌, Bool, true, false, ◌&&◌, cond, List, [], ◌∷◌, ◌++◌, Option, None, Some, length, get_or, map, nat_eq, refl, sym, ap, subst, ◌∙◌, inl, inr, arith, length-append}
+use Rattle.std.proofs.Common.{◌≡◌, ℕ, zero, suc, ◌<◌, ◌≤◌, Bool, true, false, cond, List, [], ◌∷◌, ◌++◌, Option, None, Some, length, get_or, map, nat_eq, refl, sym, ap, ◌∙◌, inl, inr, arith, length-append}
 use Rattle.std.specs.Prelude.{if◌then◌else◌, is_some}
-use Rattle.std.specs.List.{list_all, list_any, filter_map, cons_option, All}
-use Rattle.std.specs.Option.{option_map, option_map_or}
+use Rattle.std.specs.List.{list_all, All}
+use Rattle.std.specs.Option.{option_map}
 use Rattle.std.specs.Str.{bytes_eq}
 use Rattle.std.specs.FinMap.{find}
 use Rattle.std.specs.Ordering.{nat_cmp, eq_by_cmp}
 use Rattle.std.specs.Cmp.Lexicographic.{slice_cmp}
 use Rattle.std.proofs.lemmas.Bool.{and_parts, cases_lt}
-use Rattle.std.proofs.lemmas.List.Elements.{All-head, All-tail}
-use Rattle.dsv_base.specs.Paths.{is_path, is_component, root_text, front_of, or_root, before_last_slash, parent_text, name_of, join_text}
-use Rattle.dsv_base.proofs.Joins.{component_slash, component_some, before_last, parent_joined, name_of-join, join_parent}
+use Rattle.std.proofs.lemmas.List.Elements.{All-weaker}
+use Rattle.dsv_base.specs.Paths.{is_path, is_component, root_text, front_of, or_root, parent_text, join_text}
+use Rattle.dsv_base.proofs.Joins.{component_slash, component_some, before_last}
 use Rattle.rev_nodes.specs.declared.entry.Entry.{Entry}
 use Rattle.rev_nodes.specs.Trees.{at, is_dir}
 use Rattle.rev_nodes.specs.Forests.{Numbered, ForestRevision, Forest, no_revision, tree_of, places_at, place_at, id_at, node_at}
-use Rattle.rev_nodes.specs.Entries.{is_child, entry_in, entries_in, IsSoundPlace, IsSound}
-use Rattle.rev_nodes.specs.Formed.{IsFormed, AreFormed}
-use Rattle.rev_nodes.specs.Subtrees.{path_below, AreSameBelow, HaveEqualSubtrees}
-use Rattle.rev_nodes.proofs.Below.{same_from, equal_itself, differ}
-use Rattle.rev_nodes.proofs.Forming.{tied, tied_self}
-
-abbrev key : Entry → List ℕ × ℕ
-key entry = (entry.name, entry.id)
+use Rattle.rev_nodes.specs.Entries.{entries_in, IsSoundPlace, IsSound}
+use Rattle.rev_nodes.specs.Formed.{AreFormed}
+use Rattle.rev_nodes.specs.Subtrees.{path_below, HaveEqualSubtrees}
+use Rattle.rev_nodes.proofs.Below.{same_from, differ}
+use Rattle.rev_nodes.proofs.EntryNames.{key, StandsAtPath, find-entry}
 
 -- look-ups without the numbers
 pub find-tree_of : (places : List (List ℕ × Numbered)) (path : List ℕ) → at path (tree_of places) ≡ option_map (λ (p : Numbered). p.here) (find (slice_cmp nat_cmp) path places)
@@ -33,46 +30,6 @@ pub none_past : (revisions : List ForestRevision) (rev : ℕ) → length revisio
 none_past [] rev h = refl
 none_past (r ∷ rs) zero h = absurd (omega arith)
 none_past (r ∷ rs) (suc rev) h = none_past rs rev (omega arith)
-
--- ---- the number of a name in a directory is that of its path
-
-untied : (a b : List ℕ) → (a ≡ b → ⊥) → eq_by_cmp (slice_cmp nat_cmp) a b ≡ false
-untied a b other = elim (eq_by_cmp (slice_cmp nat_cmp) a b) as (λ t. eq_by_cmp (slice_cmp nat_cmp) a b ≡ t → t ≡ false) [ true ↦ λ e. absurd (other (tied a b e)) | false ↦ λ e. refl ] refl
-
-module _ (directory name : List ℕ) (is : is_path directory ≡ true) (named : is_component name ≡ true) where
-  joined_child : (path : List ℕ) → join_text directory name ≡ path → is_child directory path ≡ true
-  joined_child path e = ap (λ (o : Option (List ℕ)). option_map_or (bytes_eq directory) o false) (ap parent_text (sym e) ∙ parent_joined directory name is named) ∙ equal_itself directory
-
-  child_parent : (o : Option (List ℕ)) → option_map_or (bytes_eq directory) o false ≡ true → o ≡ Some directory
-  child_parent None e = absurd (cc)
-  child_parent (Some parent) e = ap (λ (q : List ℕ). Some q) (sym (same_from directory parent e))
-
-  child_path : (path : List ℕ) → is_path path ≡ true → is_child directory path ≡ true → join_text directory (name_of path) ≡ path
-  child_path path one child = join_parent path directory one (child_parent (parent_text path) child)
-
-  -- the keys tie exactly where the paths do
-  same_ties : (path : List ℕ) → is_path path ≡ true → is_child directory path ≡ true → eq_by_cmp (slice_cmp nat_cmp) name (name_of path) ≡ eq_by_cmp (slice_cmp nat_cmp) (join_text directory name) path
-  same_ties path one child = by (eq_by_cmp (slice_cmp nat_cmp) name (name_of path)) refl
-    where
-      by : (b : Bool) → eq_by_cmp (slice_cmp nat_cmp) name (name_of path) ≡ b → b ≡ eq_by_cmp (slice_cmp nat_cmp) (join_text directory name) path
-      by true e = sym (ap (λ p. eq_by_cmp (slice_cmp nat_cmp) p path) (ap (join_text directory) (tied name (name_of path) e) ∙ child_path path one child) ∙ tied_self path)
-      by false e = sym (untied (join_text directory name) path (λ same. let t = ap (λ n. eq_by_cmp (slice_cmp nat_cmp) name n) (sym (name_of-join directory name named) ∙ ap name_of same) in let s = tied_self name in cc (t, s, e)))
-
-  find-entry : (forest : Forest) (rev : ℕ) (places : List (List ℕ × Numbered)) → All (IsSoundPlace forest rev) places → find (slice_cmp nat_cmp) name (map key (filter_map (entry_in directory) places)) ≡ option_map (λ (p : Numbered). p.id) (find (slice_cmp nat_cmp) (join_text directory name) places)
-  find-entry forest rev [] all = refl
-  find-entry forest rev (p ∷ ps) all = by (is_child directory p.0) refl (find-entry forest rev ps (All-tail (IsSoundPlace forest rev) p ps all))
-    where
-      one : is_path p.0 ≡ true
-      one = (All-head (IsSoundPlace forest rev) p ps all).path
-
-      first : (b : Bool) → option_map (λ (q : Numbered). q.id) (cond b (Some p.1) (find (slice_cmp nat_cmp) (join_text directory name) ps)) ≡ cond b (Some p.1.id) (option_map (λ (q : Numbered). q.id) (find (slice_cmp nat_cmp) (join_text directory name) ps))
-      first true = refl
-      first false = refl
-
-      by : (child : Bool) → is_child directory p.0 ≡ child → find (slice_cmp nat_cmp) name (map key (filter_map (entry_in directory) ps)) ≡ option_map (λ (q : Numbered). q.id) (find (slice_cmp nat_cmp) (join_text directory name) ps)
-          → find (slice_cmp nat_cmp) name (map key (cons_option (if child then Some (record { name = name_of p.0; id = p.1.id }) else None) (filter_map (entry_in directory) ps))) ≡ option_map (λ (q : Numbered). q.id) (cond (eq_by_cmp (slice_cmp nat_cmp) (join_text directory name) p.0) (Some p.1) (find (slice_cmp nat_cmp) (join_text directory name) ps))
-      by true e more = (λ i. cond (same_ties p.0 one e i) (Some p.1.id) (more i)) ∙ sym (first (eq_by_cmp (slice_cmp nat_cmp) (join_text directory name) p.0))
-      by false e more = more ∙ sym (ap (λ b. option_map (λ (q : Numbered). q.id) (cond b (Some p.1) (find (slice_cmp nat_cmp) (join_text directory name) ps))) (untied (join_text directory name) p.0 (λ same. let c = joined_child p.0 same in cc (c, e))))
 
 -- ---- below nothing stands nothing
 
@@ -151,13 +108,16 @@ module _ (forest : Forest) (sound : IsSound forest) (formed : AreFormed forest) 
   path_there : (rev : ℕ) (path : List ℕ) (id : ℕ) → id_at forest rev path ≡ Some id → is_path path ≡ true
   path_there rev path id e = (formed rev (stands_in rev path id e)).paths path (ap is_some (find-tree_of (places_at forest rev) path) ∙ some_is_some (place_at forest rev path) id e)
 
+  at_paths : (rev : ℕ) → All StandsAtPath (places_at forest rev)
+  at_paths rev = All-weaker (IsSoundPlace forest rev) StandsAtPath (λ place sound. sound.path) (places_at forest rev) (sound.places rev)
+
   step_same : (rev : ℕ) (path : List ℕ) (other : ℕ) (there name : List ℕ) (o : Option ℕ) → 1 ≤ length path → 1 ≤ length there → is_component name ≡ true → id_at forest rev path ≡ o → id_at forest other there ≡ o → id_at forest rev (join_text path name) ≡ id_at forest other (join_text there name)
   unfolding entries_in
   step_same rev path other there name None a b named e f = closed rev path name a named e ∙ sym (closed other there name b named f)
   step_same rev path other there name (Some id) a b named e f =
-      sym (find-entry path name (path_there rev path id e) named forest rev (places_at forest rev) (sound.places rev))
+      sym (find-entry path name (path_there rev path id e) named (places_at forest rev) (at_paths rev))
       ∙ ap (λ (es : List Entry). find (slice_cmp nat_cmp) name (map key es)) (sound.alike rev path other there id e f).entries
-      ∙ find-entry there name (path_there other there id f) named forest other (places_at forest other) (sound.places other)
+      ∙ find-entry there name (path_there other there id f) named (places_at forest other) (at_paths other)
 
   ids_same : (names : List (List ℕ)) (rev : ℕ) (path : List ℕ) (other : ℕ) (there : List ℕ) → 1 ≤ length path → 1 ≤ length there → list_all is_component names ≡ true → id_at forest rev path ≡ id_at forest other there → id_at forest rev (path_below path names) ≡ id_at forest other (path_below there names)
   ids_same [] rev path other there a b named e = e

@@ -1,4 +1,5 @@
 use crate::entry::Entry;
+use crate::height::Height;
 use crate::line::Line;
 use crate::node::Node;
 use dsv_base::List;
@@ -11,4 +12,6 @@ pub struct Cell {
     pub line: Line,
     /// What stands in it, in byte order of the names; nothing in a file.
     pub entries: List<Entry>,
+    /// How long the longest ways below it are.
+    pub height: Height,
 }

@@ -89,7 +89,7 @@ first_kept first sound none rs is = subst AreKept (sym is) (record {
     formed (suc rev) h = absurd (omega arith)
 
     nodes : (rev : ℕ) → All (HasSoundNode rev) (tree_in (places_in one rev))
-    nodes zero = All-cons (HasSoundNode 0) (root_text, node_of root_place) [] (record { created = omega arith; since = omega arith; source = tt; names = refl }) (All-nil (HasSoundNode 0))
+    nodes zero = All-cons (HasSoundNode 0) (root_text, node_of root_place) [] (record { created = omega arith; since = omega arith; source = tt; path = refl; names = refl }) (All-nil (HasSoundNode 0))
     nodes (suc rev) = All-nil (HasSoundNode (suc rev))
 
     commits : (rev : ℕ) → rev < length one → IsCommitOf rev (commit_in one rev)

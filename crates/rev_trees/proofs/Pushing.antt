@@ -186,8 +186,9 @@ pub made_ready : (rs : List FlatRevision) (commit : Commit) (number : ℕ) (revi
 made_ready rs commit number revision kept sound made next few =
     let some = kept.some in
     let sources : (rev : ℕ) → All (HasSoundNode rev) (tree_at (trees_in rs) rev) = λ rev. subst (All (HasSoundNode rev)) (sym (source_tree rs rev)) (kept.nodes rev) in
+    let formed : (rev : ℕ) → rev < length (trees_in rs) → IsFormed (tree_at (trees_in rs) rev) = λ rev less. subst IsFormed (sym (source_tree rs rev)) (kept.formed rev (omega (arith, less, length-trees rs))) in
     let before : All (HasSoundNode (length rs)) (youngest_in rs) = later_nodes (length rs - 1) (length rs) (youngest_in rs) (omega arith) (kept.nodes (length rs - 1)) in
-    let nodes : All (HasSoundNode (length rs)) (tree_in revision.places) = sound_changes (length rs) (trees_in rs) (length-trees rs) sources commit.changes 0 (youngest_in rs) (tree_in revision.places) sound.changes made.tree_is before in
+    let nodes : All (HasSoundNode (length rs)) (tree_in revision.places) = sound_changes (length rs) (trees_in rs) (length-trees rs) sources formed commit.changes 0 (youngest_in rs) (tree_in revision.places) sound.changes made.tree_is before in
     let below = sources_below (length rs) (trees_in rs) (length-trees rs) sources commit.changes 0 (youngest_in rs) (tree_in revision.places) made.tree_is in
     record {
       next = next;

@@ -4,7 +4,7 @@ use Rattle.std.proofs.lemmas.List.{take-append-drop}
 use Rattle.std.proofs.lemmas.List.Splits.{slice_split_none, slice_split_at}
 use Rattle.std.proofs.lemmas.Grind.{common_steps}
 use Rattle.std.proofs.lemmas.Bool.Decides.{nat_tests}
-use Rattle.dsv_base.specs.Paths.{components, is_slash}
+use Rattle.dsv_base.specs.Paths.{components}
 use Rattle.node_table.proofs.names.first_name.Goals as goal
 
 pub returns-in-None-clause-cut : goal.returns-in-None-clause-cut

@@ -1,4 +1,4 @@
-use Rattle.std.proofs.Common.{◌≡◌, List, sym, subst, ◌∙◌}
+use Rattle.std.proofs.Common.{List, sym, subst}
 use Rattle.rev_nodes.specs.declared.cell.Cell.{Cell}
 use Rattle.node_table.specs.Tables.{IsSound}
 use Rattle.node_table.proofs.table.Table.look.Goals as goal

@@ -1,5 +1,5 @@
 use Rattle.std.proofs.Common.{length}
-use Rattle.node_table.proofs.limits.+count_names.Given as goal
+use Rattle.node_table.proofs.depths.+count_names.Given as goal
 
 abbrev pub decreases-count_names : goal.decreases-count_names
 decreases-count_names l = length l.rest.now
