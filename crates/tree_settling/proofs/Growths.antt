@@ -1,5 +1,5 @@
 -- What edits show where nothing was touched, and what stays as the table grows.
-use Rattle.std.proofs.Common.{◌≡◌, ℕ, ◌+◌, ◌<◌, ◌≤◌, Bool, true, false, cond, T, List, [], ◌∷◌, ◌++◌, Option, None, Some, length, refl, sym, ap, subst, ◌∙◌, arith, length-append}
+use Rattle.std.proofs.Common.{◌≡◌, ℕ, zero, suc, ◌+◌, ◌-◌, ◌<◌, ◌≤◌, Bool, true, false, cond, T, List, [], ◌∷◌, ◌++◌, Option, None, Some, length, refl, sym, ap, subst, ◌∙◌, arith, length-append}
 use Rattle.std.specs.Prelude.{IsTrue, if◌then◌else◌}
 use Rattle.std.specs.Option.{option_map, option_and_then}
 use Rattle.std.specs.Str.{bytes_eq}
@@ -14,7 +14,8 @@ use Rattle.node_table.specs.Ways.{Name, are_names}
 use Rattle.node_table.specs.Tables.{cell_at, child_in, Spot, spot_in, below_line, node_at, walk, seen, IsSound}
 use Rattle.node_table.proofs.Growing.{cell_at-kept, seen-kept, child_within, walk_none}
 use Rattle.node_table.proofs.Ways.{not_root, some_text, join-front}
-use Rattle.tree_edits.specs.Edits.{Held, Touched, touched_at, held_in, child_of, or_touched, held_from, shown_node}
+use Rattle.tree_edits.specs.declared.held.Held.{Held}
+use Rattle.tree_edits.specs.Edits.{Touched, touched_at, held_in, child_of, or_touched, held_from, shown_node}
 use Rattle.tree_edits.specs.AreEdits.{AreTouched}
 use Rattle.tree_settling.specs.Settled.{IsMadeAt, Agrees}
 
@@ -42,7 +43,7 @@ front_root b bs = by (bytes_eq (b ∷ bs) root_text) refl
 pub parent_of_join : (p n : List ℕ) → IsSome p → is_component n ≡ true → parent_text (join_text p n) ≡ Some p
 unfolding parent_text
 parent_of_join p n some named =
-    ap (λ t. if bytes_eq t root_text then None else Some (or_root (before_last_slash t))) (join-front p n)
+    ap parent_text (join-front p n)
     ∙ ap (λ b. if b then None else Some (or_root (before_last_slash (front_of p ++ 47 ∷ n)))) (differ (front_of p ++ 47 ∷ n) root_text (not_root (front_of p) n (some_text n (component_some n named))))
     ∙ ap (λ t. Some (or_root t)) (before_last (front_of p) n (component_slash n named))
     ∙ ap (λ (t : List ℕ). Some t) (ap (λ t. or_root (front_of t)) some.is ∙ front_root some.byte some.rest ∙ sym some.is)
@@ -96,3 +97,9 @@ module _ (cells : List Cell) (touched : Touched) (all : List Cell) (sound : IsSo
   agrees-kept path (Some (Some here)) None h = absurd h
   agrees-kept path (Some (Some here)) (Some None) h = absurd h
   agrees-kept path (Some (Some here)) (Some (Some id)) h = made-kept path here id h
+
+-- the cells behind those of the table
+pub cell_at-behind : (cells more : List Cell) (id : ℕ) → length cells ≤ id → cell_at (cells ++ more) id ≡ cell_at more (id - length cells)
+cell_at-behind [] more id h = ap (cell_at more) (omega arith)
+cell_at-behind (c ∷ cells) more zero h = absurd (omega (arith, h))
+cell_at-behind (c ∷ cells) more (suc id) h = cell_at-behind cells more id (omega (arith, h)) ∙ ap (cell_at more) (omega arith)

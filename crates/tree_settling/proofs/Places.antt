@@ -10,11 +10,14 @@ use Rattle.dsv_base.specs.Paths.{is_path, is_component, parent_text, join_text}
 use Rattle.rev_nodes.specs.declared.cell.Cell.{Cell}
 use Rattle.rev_nodes.specs.declared.entry.Entry.{Entry}
 use Rattle.rev_nodes.specs.declared.line.Line.{Line}
+use Rattle.rev_nodes.specs.declared.node.Node.{Node}
 use Rattle.rev_nodes.specs.Trees.{TreeNode, is_dir_kind}
 use Rattle.node_table.specs.Ways.{Name, are_names}
-use Rattle.node_table.specs.Tables.{pair, cell_at, child, child_in, Spot, spot_in, below_line, node_at, seen, IsChild, IsCell, IsSound}
-use Rattle.node_table.proofs.Growing.{cell_at-kept, cell_at-next, seen-kept, spot_in-kept, child_within, sound-more}
-use Rattle.tree_edits.specs.Edits.{Held, Touched, touched_at, held_in, child_of, or_touched, held_from, shown_node}
+use Rattle.node_table.specs.Tables.{pair, are_in_order, height_over, carried_line, cell_at, child, child_in, Spot, spot_in, below_line, node_at, seen, IsChild, IsCell, IsSound}
+use Rattle.node_table.proofs.EntriesFound.{own_entry}
+use Rattle.node_table.proofs.Growing.{height_over-kept, cell_at-kept, cell_at-next, seen-kept, spot_in-kept, child_within, sound-more}
+use Rattle.tree_edits.specs.declared.held.Held.{Held}
+use Rattle.tree_edits.specs.Edits.{Touched, touched_at, held_in, child_of, or_touched, held_from, shown_node}
 use Rattle.tree_edits.specs.AreEdits.{AreTouched, IsHeld}
 use Rattle.tree_settling.specs.Merged.{AllMade, made_at, or_made}
 use Rattle.tree_settling.specs.Settled.{entries_under, IsCellOf, IsMadeAt, Agrees}
@@ -31,11 +34,11 @@ under_child cells n (Some id) = refl
 
 -- a touched place's own line counts, since it is no older than its directory's
 own_line : (above : Line) (n : Name) (own : Line) → above.since ≤ own.since → below_line above n own ≡ own
-own_line above n own older = ap (λ b. if b then own else record { since = above.since; source = option_map (λ s. (join_text s.0 n, s.1)) above.source }) (le-leb above.since own.since older)
+own_line above n own older = ap (λ b. if b then own else carried_line above n) (le-leb above.since own.since older)
 
 module _ (rev : ℕ) (cells : List Cell) (touched : Touched) (sound : IsSound cells) (are : AreTouched rev cells touched) (more : List Cell) (all_sound : IsSound (cells ++ more)) (back : Touched) (made : AllMade) (agree : (p : List ℕ) → Agrees cells touched (cells ++ more) p (touched_at back p) (made_at made p))
     (path : List ℕ) (some : IsSome path) (here : Held) (there : touched_at touched path ≡ Some (Some here)) (behind : (n : Name) → is_component n ≡ true → touched_at back (join_text path n) ≡ touched_at touched (join_text path n))
-    (cell : Cell) (cell_is : IsCellOf cells made path here cell) where
+    (cell : Cell) (cell_is : IsCellOf cells more made path here cell) where
   abbrev all : List Cell
   all = cells ++ more
 
@@ -110,13 +113,13 @@ module _ (rev : ℕ) (cells : List Cell) (touched : Touched) (sound : IsSound ce
         lower = low;
         name = name;
         older = subst (λ (x : Cell). x.node.created ≤ (cell_at final (length all)).node.created) (sym (cell_at-kept all (cell ∷ []) j low))
-            (subst (λ (x : Cell). (cell_at all j).node.created ≤ x.node.created) (sym here_is) (subst (λ x. (cell_at all j).node.created ≤ x.created) (sym cell_is.node) older));
+            (subst (λ (x : Cell). (cell_at all j).node.created ≤ x.node.created) (sym here_is) (subst (λ (x : Node). (cell_at all j).node.created ≤ x.created) (sym cell_is.node) older));
       }
 
       from_made : is_component n ≡ true → IsMadeIn n j → IsChild final (length all) n j
       from_made named m =
           let i = in_here n named (Some m.other) m.edit in
-          child_of_all named m.made_is.within (subst (λ x. x.created ≤ here.node.created) (sym m.made_is.node) (i.created m.other refl))
+          child_of_all named m.made_is.within (subst (λ (x : Node). x.created ≤ here.node.created) (sym m.made_is.node) (i.created m.other refl))
 
       by : (o : Option (Option ℕ)) → made_at cell_is.names n ≡ o → or_made o (child n (entries_under cells here)) ≡ Some j → IsChild final (length all) n j
       by None e g =
@@ -142,10 +145,11 @@ module _ (rev : ℕ) (cells : List Cell) (touched : Touched) (sound : IsSound ce
 
   pub final_sound : IsSound final
   final_sound = sound-more all cell all_sound (record {
-    sorted = subst (λ (x : Cell). IsTrue (is_sorted (slice_cmp nat_cmp) (map pair x.entries))) (sym here_is) cell_is.merged.sorted;
+    sorted = subst (λ (x : Cell). IsTrue (are_in_order x.entries)) (sym here_is) cell_is.merged.sorted;
     children = λ n j e. child_is n j (sym (ap (λ (x : Cell). child n x.entries) here_is) ∙ e);
-    file = subst (λ (x : Cell). is_dir_kind x.node.kind ≡ false → x.entries ≡ []) (sym here_is) (λ file. no_file (sym (ap (λ x. is_dir_kind x.kind) cell_is.node) ∙ file));
-    since = subst (λ (x : Cell). x.line.since ≤ x.node.created) (sym here_is) (subst (λ x. cell.line.since ≤ x.created) (sym cell_is.node) (subst (λ (x : Line). x.since ≤ here.node.created) (sym cell_is.line) held.since));
+    file = subst (λ (x : Cell). is_dir_kind x.node.kind ≡ false → x.entries ≡ []) (sym here_is) (λ file. no_file (sym (ap (λ (x : Node). is_dir_kind x.kind) cell_is.node) ∙ file));
+    height = subst (λ (x : Cell). x.height ≡ height_over final x.entries) (sym here_is) (cell_is.height ∙ sym (height_over-kept all (cell ∷ []) cell.entries (λ k d less. (child_is _ _ (own_entry cell.entries cell_is.merged.sorted k d less)).lower)));
+    since = subst (λ (x : Cell). x.line.since ≤ x.node.created) (sym here_is) (subst (λ (x : Node). cell.line.since ≤ x.created) (sym cell_is.node) (subst (λ (x : Line). x.since ≤ here.node.created) (sym cell_is.line) held.since));
   })
 
   -- ---- it shows what the edits do
@@ -189,11 +193,8 @@ module _ (rev : ℕ) (cells : List Cell) (touched : Touched) (sound : IsSound ce
       by : (t : Option (Option Held)) → touched_at back (join_text path n) ≡ t → (m : Option (Option ℕ)) → made_at made (join_text path n) ≡ m → Agrees cells touched all (join_text path n) t m
           → seen final (option_map (spot_in final here.line n) (or_made m (option_and_then (child_in cells n) here.under))) ns ≡ option_map shown_node (held_from cells touched (join_text path n) (or_touched t (child_of cells n here)) ns)
       by None e None f a = by_table n ns names (sym (behind n named) ∙ e) (option_and_then (child_in cells n) here.under) (λ j g. (under_is n j here.under refl g).lower)
-      by None e (Some m) f a = no_way m a
-        where
-          no_way : {X : Type 0} (m : Option ℕ) → Agrees cells touched all (join_text path n) None (Some m) → X
-          no_way None a = absurd a
-          no_way (Some j) a = absurd a
+      by None e (Some None) f a = absurd a
+      by None e (Some (Some m)) f a = absurd a
       by (Some None) e None f a = absurd a
       by (Some None) e (Some None) f a = seen_none final ns ∙ sym (ap (option_map shown_node) (held_none cells touched (join_text path n) ns))
       by (Some None) e (Some (Some j)) f a = absurd a
@@ -202,7 +203,7 @@ module _ (rev : ℕ) (cells : List Cell) (touched : Touched) (sound : IsSound ce
       by (Some (Some h)) e (Some (Some j)) f a = by_made n ns named names h j (sym (behind n named) ∙ e) a
 
   shows_all : (ns : List Name) → are_names ns ≡ true → seen final (Some (record { id = length all; line = here.line })) ns ≡ option_map shown_node (held_from cells touched path (Some here) ns)
-  shows_all [] names = ap (λ x. let t : TreeNode = record { node = x; line = here.line } in Some t) (ap (λ (x : Cell). x.node) here_is ∙ cell_is.node)
+  shows_all [] names = ap (λ (x : Node). let t : TreeNode = record { node = x; line = here.line } in Some t) (ap (λ (x : Cell). x.node) here_is ∙ cell_is.node)
   shows_all (n ∷ ns) names =
       let p = and_parts (is_component n) (are_names ns) names in
       ap (λ o. seen final (option_map (spot_in final here.line n) o) ns) (child_new n p.0) ∙ shows_below n ns p.0 p.1

@@ -52,20 +52,16 @@ module _ {X : Type 0} where
       by Equal t g go = subst (λ y. slice_cmp nat_cmp x y ≡ Less) (sym (exact_bytes q f.0 t)) (less_from _ (first_true _ _ h))
       by Greater t g go = go g
 
+  pub below_one : (x k : List ℕ) (v : X) (front back : List (List ℕ × X)) → T (below_all (slice_cmp nat_cmp) x (front ++ (k, v) ∷ back)) → slice_cmp nat_cmp x k ≡ Less
+  below_one x k v [] back h = less_from _ (first_true _ _ h)
+  below_one x k v (g ∷ gs) back h = below_one x k v gs back (second_true _ _ h)
+
   -- what stands behind a text in a list in order is found there alone
   pub find_behind : (front back : List (List ℕ × X)) (k q : List ℕ) (v : X) → T (is_sorted (slice_cmp nat_cmp) (front ++ (k, v) ∷ back)) → slice_cmp nat_cmp k q ≡ Less → find (slice_cmp nat_cmp) q (front ++ (k, v) ∷ back) ≡ find (slice_cmp nat_cmp) q back
   find_behind [] back k q v s less = ap (λ r. cond (is_eq r) (Some v) (find (slice_cmp nat_cmp) q back)) (turned k q less)
   find_behind (f ∷ fs) back k q v s less =
-      ap (λ r. cond (is_eq r) (Some f.1) (find (slice_cmp nat_cmp) q (fs ++ (k, v) ∷ back))) (turned f.0 q (nat_list_cmp_total.trans f.0 k q (below_one fs (first_true _ _ s)) less))
+      ap (λ r. cond (is_eq r) (Some f.1) (find (slice_cmp nat_cmp) q (fs ++ (k, v) ∷ back))) (turned f.0 q (nat_list_cmp_total.trans f.0 k q (below_one f.0 k v fs back (first_true _ _ s)) less))
       ∙ find_behind fs back k q v (second_true _ _ s) less
-    where
-      below_one : (gs : List (List ℕ × X)) → T (below_all (slice_cmp nat_cmp) f.0 (gs ++ (k, v) ∷ back)) → slice_cmp nat_cmp f.0 k ≡ Less
-      below_one [] h = less_from _ (first_true _ _ h)
-      below_one (g ∷ gs) h = below_one gs (second_true _ _ h)
-
-  pub below_one : (x k : List ℕ) (v : X) (front back : List (List ℕ × X)) → T (below_all (slice_cmp nat_cmp) x (front ++ (k, v) ∷ back)) → slice_cmp nat_cmp x k ≡ Less
-  below_one x k v [] back h = less_from _ (first_true _ _ h)
-  below_one x k v (g ∷ gs) back h = below_one x k v gs back (second_true _ _ h)
 
   pub find_between : (front back : List (List ℕ × X)) (k : List ℕ) (v : X) → T (is_sorted (slice_cmp nat_cmp) (front ++ (k, v) ∷ back)) → find (slice_cmp nat_cmp) k (front ++ (k, v) ∷ back) ≡ Some v
   find_between [] back k v s = find_first k v back

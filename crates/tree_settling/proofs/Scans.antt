@@ -12,6 +12,7 @@ use Rattle.std.specs.declared.cmp.Ordering.TheVariants.{Less, Equal, Greater}
 use Rattle.std.specs.Cmp.{tied_itself, nat_cmp_total}
 use Rattle.std.specs.Cmp.Lexicographic.{slice_cmp, nat_list_cmp_total}
 use Rattle.std.proofs.lemmas.Bool.{and_parts, and_from, eqb-true, eq-eqb}
+use Rattle.std.proofs.lemmas.List.{take_all}
 use Rattle.std.proofs.lemmas.Map.Lookups.{exact_bytes}
 use Rattle.dsv_base.specs.Paths.{is_path, is_component, name_of, parent_text, join_text, front_of, root_text}
 use Rattle.dsv_base.proofs.Joins.{join_parent, name_is_component, parent_joined}
@@ -38,9 +39,6 @@ join_order k n m =
     ∙ ap (λ y. slice_cmp nat_cmp (front_of k ++ 47 ∷ n) y) (join-front k m)
     ∙ same_front (front_of k) (47 ∷ n) (47 ∷ m)
     ∙ same_front (47 ∷ []) n m
-
-reads : (a b : ℕ) (k p : List ℕ) → starts_with nat_eq (b ∷ p) (a ∷ k) ≡ (nat_eq a b && starts_with nat_eq p k)
-reads a b k p = refl
 
 -- between a text and one that begins with it all begin with it
 between : (k p q : List ℕ) → slice_cmp nat_cmp k p ≡ Less → slice_cmp nat_cmp p q ≡ Less → starts_with nat_eq q k ≡ true → starts_with nat_eq p k ≡ true
@@ -192,26 +190,45 @@ pub record IsScanned (k : List ℕ) (made rest names : AllMade) : Type 0 where
   pub so : names ++ scan k (reverse rest) ≡ scan k (reverse made)
   pub paths : list_all (λ m. is_path m.0) (reverse rest) ≡ true
 
-module _ (k : List ℕ) (made rest names : AllMade) (last : List ℕ × Option ℕ) (some : 1 ≤ length rest) (is : last ≡ get_or rest (length rest - 1) last) (so : IsScanned k made rest names) where
-  pub last_path : is_path last.0 ≡ true
-  last_path = (and_parts (is_path last.0) _ (sym (ap (list_all (λ m. is_path m.0)) (last_first rest last some is)) ∙ so.paths)).0
+pub scan_begins : (k : List ℕ) (made names : AllMade) (n : ℕ) → AreBehind k (reverse made) → n ≡ length made → names ≡ [] → IsScanned k made (take n made) names
+scan_begins k made names n are n_is names_is =
+    let all : take n made ≡ made = take_all n made (omega (arith, n_is)) in
+    subst (λ xs. IsScanned k made xs names) (sym all) (record { so = ap (λ xs. xs ++ scan k (reverse made)) names_is; paths = are.paths })
 
-  pub scan_stops : starts_with nat_eq last.0 k ≡ false → names ≡ scan k (reverse made)
+pub scan_ends : (k : List ℕ) (made names : AllMade) (n : ℕ) → n ≡ 0 → IsScanned k made (take n made) names → names ≡ scan k (reverse made)
+scan_ends k made names n none so = sym (append-nil names) ∙ ap (λ m. names ++ scan k (reverse (take m made))) (sym none) ∙ so.so
+
+module _ (k : List ℕ) (made names : AllMade) (n : ℕ) (first : List ℕ × Option ℕ) (some : 1 ≤ n) (within : n ≤ length made) (is : first ≡ get_or made (n - 1) first) (so : IsScanned k made (take n made) names) where
+  cut : reverse (take n made) ≡ first ∷ reverse (take (n - 1) made)
+  cut = last_first made n first some within is
+
+  pub first_path : is_path first.0 ≡ true
+  first_path = (and_parts (is_path first.0) _ (sym (ap (list_all (λ m. is_path m.0)) cut) ∙ so.paths)).0
+
+  pub scan_stops : starts_with nat_eq first.0 k ≡ false → names ≡ scan k (reverse made)
   scan_stops not =
       sym (append-nil names)
-      ∙ ap (λ xs. names ++ xs) (sym (ap (scan k) (last_first rest last some is) ∙ ap (λ b. if b then listed_in k last ++ scan k (reverse (take (length rest - 1) rest)) else []) not))
+      ∙ ap (λ xs. names ++ xs) (sym (ap (scan k) cut ∙ ap (λ b. if b then listed_in k first ++ scan k (reverse (take (n - 1) made)) else []) not))
       ∙ so.so
 
-  pub scan_goes_on : (new : AllMade) → new ≡ names ++ listed_in k last → starts_with nat_eq last.0 k ≡ true → IsScanned k made (take (length rest - 1) rest) new
-  scan_goes_on new new_is yes = record {
+  pub scan_goes_on : (new : AllMade) → new ≡ names ++ listed_in k first → starts_with nat_eq first.0 k ≡ true → IsScanned k made (take (n - 1) made) new
+  scan_goes_on new new_is begun = record {
     so =
-        ap (λ xs. xs ++ scan k (reverse (take (length rest - 1) rest))) new_is
-        ∙ append_assoc names (listed_in k last) (scan k (reverse (take (length rest - 1) rest)))
-        ∙ ap (λ xs. names ++ xs) (sym (ap (scan k) (last_first rest last some is) ∙ ap (λ b. if b then listed_in k last ++ scan k (reverse (take (length rest - 1) rest)) else []) yes))
+        ap (λ xs. xs ++ scan k (reverse (take (n - 1) made))) new_is
+        ∙ append_assoc names (listed_in k first) (scan k (reverse (take (n - 1) made)))
+        ∙ ap (λ xs. names ++ xs) (sym (ap (scan k) cut ∙ ap (λ b. if b then listed_in k first ++ scan k (reverse (take (n - 1) made)) else []) begun))
         ∙ so.so;
-    paths = (and_parts (is_path last.0) _ (sym (ap (list_all (λ m. is_path m.0)) (last_first rest last some is)) ∙ so.paths)).1;
+    paths = (and_parts (is_path first.0) _ (sym (ap (list_all (λ m. is_path m.0)) cut) ∙ so.paths)).1;
   }
 
 -- a name in its path
 pub name_cut : (k p : List ℕ) → is_path p ≡ true → parent_text p ≡ Some k → p ≡ front_of k ++ 47 ∷ name_of p
 name_cut k p one parent = sym (join_parent p k one parent) ∙ join-front k (name_of p)
+
+behind_front : (front name : List ℕ) → drop (length front + 1) (front ++ 47 ∷ name) ≡ name
+behind_front [] name = refl
+behind_front (b ∷ bs) name = let more : suc (length bs) + 1 ≡ suc (length bs + 1) = omega arith in ap (λ n. drop n (b ∷ (bs ++ 47 ∷ name))) more ∙ behind_front bs name
+
+pub name_behind : (k p name : List ℕ) (n : ℕ) → is_path p ≡ true → parent_text p ≡ Some k → n ≡ length (front_of k) → name ≡ drop (n + 1) p → name ≡ name_of p
+name_behind k p name n one parent n_is name_is =
+    name_is ∙ ap (λ m. drop (m + 1) p) n_is ∙ ap (drop (length (front_of k) + 1)) (name_cut k p one parent) ∙ behind_front (front_of k) (name_of p)

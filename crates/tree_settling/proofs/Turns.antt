@@ -12,10 +12,13 @@ use Rattle.std.specs.declared.cmp.Ordering.TheVariants.{Less, Equal, Greater}
 use Rattle.std.specs.Cmp.{tied_itself, nat_cmp_total}
 use Rattle.std.specs.Cmp.Lexicographic.{slice_cmp, nat_list_cmp_total}
 use Rattle.std.proofs.lemmas.Bool.{and_parts, and_from}
+use Rattle.std.proofs.lemmas.List.{take_all}
 use Rattle.std.proofs.lemmas.Map.Lookups.{exact_bytes}
 use Rattle.dsv_base.specs.Paths.{is_path, is_component, parent_text, join_text, front_of, root_text}
 use Rattle.dsv_base.proofs.Joins.{component_some}
 use Rattle.rev_nodes.specs.declared.cell.Cell.{Cell}
+use Rattle.rev_nodes.specs.declared.line.Line.{Line}
+use Rattle.rev_nodes.specs.declared.node.Node.{Node}
 use Rattle.rev_nodes.proofs.Search.{first_true, second_true, less_from}
 use Rattle.rev_nodes.proofs.Below.{same_from, long, some_text}
 use Rattle.node_table.specs.Ways.{Name, are_names}
@@ -23,7 +26,8 @@ use Rattle.node_table.specs.Tables.{cell_at, seen, IsSound}
 use Rattle.node_table.specs.Rebuilt.{root_spot}
 use Rattle.node_table.proofs.Growing.{cell_at-kept, seen-kept}
 use Rattle.node_table.proofs.Ways.{join-front}
-use Rattle.tree_edits.specs.Edits.{Held, Touched, EditedTree, touched_at, held_in, or_touched, held_root, held_from, shown_node, shown}
+use Rattle.tree_edits.specs.declared.held.Held.{Held}
+use Rattle.tree_edits.specs.Edits.{Touched, EditedTree, touched_at, held_in, or_touched, held_root, held_from, shown_node, shown}
 use Rattle.tree_edits.specs.AreEdits.{AreTouched, AreEdits}
 use Rattle.tree_settling.specs.Merged.{AllMade, made_at}
 use Rattle.tree_settling.specs.Listed.{AreBehind}
@@ -119,7 +123,7 @@ module _ (rev : ℕ) (cells : List Cell) (touched : Touched) (sound : IsSound ce
         by p true = tt
         by p false = so.agree p
 
-    some_turn : (here : Held) → touched ≡ front ++ (path, Some here) ∷ back → (more : List Cell) (made : AllMade) → AreSettled cells touched more back made → (cell : Cell) → IsCellOf cells made path here cell
+    some_turn : (here : Held) → touched ≡ front ++ (path, Some here) ∷ back → (more : List Cell) (made : AllMade) → AreSettled cells touched more back made → (cell : Cell) → IsCellOf cells more made path here cell
         → AreSettled cells touched (more ++ cell ∷ []) ((path, Some here) ∷ back) ((path, Some (length (cells ++ more))) ∷ made)
     some_turn here split more made so cell cell_is = record {
       sound = subst IsSound whole final_sound_here;
@@ -170,28 +174,31 @@ pub record IsTurned (cells : List Cell) (touched : Touched) (more : List Cell) (
   pub split : touched ≡ rest ++ back
   pub so : AreSettled cells touched more back made
 
-pub turned_first : (cells : List Cell) (touched : Touched) → IsSound cells → (more : List Cell) → length more ≡ 0 → (made : AllMade) → made ≡ [] → IsTurned cells touched more touched made
-turned_first cells touched sound more none made made_is = record { back = []; split = sym (append-nil touched); so = subst (λ xs. AreSettled cells touched more [] xs) (sym made_is) (none_settled cells touched sound more none) }
+pub turned_first : (cells : List Cell) (touched : Touched) → IsSound cells → (more : List Cell) → length more ≡ 0 → (made : AllMade) → made ≡ [] → (n : ℕ) → n ≡ length touched → IsTurned cells touched more (take n touched) made
+turned_first cells touched sound more none made made_is n n_is = record {
+  back = [];
+  split = sym (append-nil (take n touched) ∙ take_all n touched (omega (arith, n_is)));
+  so = subst (λ xs. AreSettled cells touched more [] xs) (sym made_is) (none_settled cells touched sound more none);
+}
 
-pub turned_last : (cells : List Cell) (touched : Touched) (more : List Cell) (rest : Touched) (made : AllMade) → length rest ≡ 0 → IsTurned cells touched more rest made → AreSettled cells touched more touched made
-turned_last cells touched more [] made none t = subst (λ xs. AreSettled cells touched more xs made) (sym t.split) t.so
-turned_last cells touched more (r ∷ rs) made none t = absurd (omega (arith, none))
+pub turned_last : (cells : List Cell) (touched : Touched) (more : List Cell) (made : AllMade) (n : ℕ) → n ≡ 0 → IsTurned cells touched more (take n touched) made → AreSettled cells touched more touched made
+turned_last cells touched more made n none t = subst (λ xs. AreSettled cells touched more xs made) (sym (t.split ∙ ap (λ m. take m touched ++ t.back) none)) t.so
 
-module _ (cells : List Cell) (touched : Touched) (more : List Cell) (rest : Touched) (made : AllMade) (last : List ℕ × Option Held) (some : 1 ≤ length rest) (is : last ≡ get_or rest (length rest - 1) last) (t : IsTurned cells touched more rest made) where
-  cut : touched ≡ take (length rest - 1) rest ++ (last.0, last.1) ∷ t.back
-  cut = t.split ∙ ap (λ xs. xs ++ t.back) (with_last rest last some is) ∙ append_assoc (take (length rest - 1) rest) (last ∷ []) t.back
+module _ (cells : List Cell) (touched : Touched) (more : List Cell) (made : AllMade) (n : ℕ) (last : List ℕ × Option Held) (some : 1 ≤ n) (within : n ≤ length touched) (is : last ≡ get_or touched (n - 1) last) (t : IsTurned cells touched more (take n touched) made) where
+  cut : touched ≡ take (n - 1) touched ++ (last.0, last.1) ∷ t.back
+  cut = t.split ∙ ap (λ xs. xs ++ t.back) (with_last touched n last some within is) ∙ append_assoc (take (n - 1) touched) (last ∷ []) t.back
 
   pub next_within : (rev : ℕ) × AreTouched rev cells touched → IsSound cells → (here : Held) (id : ℕ) → last.1 ≡ Some here → here.under ≡ Some id → id < length cells
-  next_within are sound = turn_within are.0 cells touched sound are.1 (take (length rest - 1) rest) t.back last.0 last.1 cut
+  next_within are sound = turn_within are.0 cells touched sound are.1 (take (n - 1) touched) t.back last.0 last.1 cut
 
   pub next_behind : (rev : ℕ) × AreTouched rev cells touched → IsSound cells → AreBehind last.0 made
-  next_behind are sound = turn_behind are.0 cells touched sound are.1 (take (length rest - 1) rest) t.back last.0 last.1 cut made t.so.keys
+  next_behind are sound = turn_behind are.0 cells touched sound are.1 (take (n - 1) touched) t.back last.0 last.1 cut made t.so.keys
 
-  pub next_turned : (rev : ℕ) × AreTouched rev cells touched → IsSound cells → (new : List Cell) (one : List ℕ × Option ℕ) → IsMadeOf cells made last.0 last.1 more new one → (all : AllMade) → all ≡ one ∷ made → IsTurned cells touched new (take (length rest - 1) rest) all
+  pub next_turned : (rev : ℕ) × AreTouched rev cells touched → IsSound cells → (new : List Cell) (one : List ℕ × Option ℕ) → IsMadeOf cells made last.0 last.1 more new one → (all : AllMade) → all ≡ one ∷ made → IsTurned cells touched new (take (n - 1) touched) all
   next_turned are sound new one m all all_is = record {
     back = last ∷ t.back;
     split = cut;
-    so = subst (λ xs. AreSettled cells touched new (last ∷ t.back) xs) (sym all_is) (turn are.0 cells touched sound are.1 (take (length rest - 1) rest) t.back last.0 last.1 cut more new made one t.so m);
+    so = subst (λ xs. AreSettled cells touched new (last ∷ t.back) xs) (sym all_is) (turn are.0 cells touched sound are.1 (take (n - 1) touched) t.back last.0 last.1 cut more new made one t.so m);
   }
 
 -- ---- the root
@@ -222,9 +229,9 @@ module _ (rev : ℕ) (cells : List Cell) (edits : EditedTree) (are : AreEdits re
   new_root : (here : Held) (id : ℕ) → touched_at edits.touched root_text ≡ Some (Some here) → IsMadeAt cells edits.touched (cells ++ more) root_text here id → HasRoot rev cells edits more id
   new_root here id there made = record {
     within = made.within;
-    created = subst (λ x. x.created ≤ rev) (sym made.node) (are.touched.held root_text here there).created;
+    created = subst (λ (x : Node). x.created ≤ rev) (sym made.node) (are.touched.held root_text here there).created;
     shows = λ ns names.
-        ap (λ l. seen (cells ++ more) (Some (record { id = id; line = l })) ns) made.line
+        ap (λ (l : Line). seen (cells ++ more) (Some (record { id = id; line = l })) ns) made.line
         ∙ made.shows ns names
         ∙ ap (λ o. option_map shown_node (held_from cells edits.touched root_text (or_touched o (Some (held_in cells (cell_at cells edits.root).line edits.root))) ns)) (sym there);
   }
@@ -237,10 +244,10 @@ module _ (rev : ℕ) (cells : List Cell) (edits : EditedTree) (are : AreEdits re
   root_by (t ∷ ts) is (m ∷ ms) keys agree = by (bytes_eq m.0 root_text) refl
     where
       same : m.0 ≡ t.0
-      same = cc
+      same = cc keys
 
       at_first : (edit : Option Held) (number : Option ℕ) → t.1 ≡ edit → m.1 ≡ number → touched_at edits.touched root_text ≡ Some edit → Agrees cells edits.touched (cells ++ more) root_text (Some edit) (Some number) → HasRoot rev cells edits more (unwrap_or number edits.root)
-      at_first None number e f there a = absurd (let s = (are.touched.placed root_text None there).stands root_parent in cc s)
+      at_first None number e f there a = absurd (let s : false ≡ true = (are.touched.placed root_text None there).stands root_parent in cc s)
       at_first (Some here) None e f there a = absurd a
       at_first (Some here) (Some id) e f there a = new_root here id there a
 

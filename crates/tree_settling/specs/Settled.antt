@@ -6,9 +6,10 @@ use Rattle.dsv_base.specs.Paths.{root_text}
 use Rattle.rev_nodes.specs.declared.cell.Cell.{Cell}
 use Rattle.rev_nodes.specs.declared.entry.Entry.{Entry}
 use Rattle.node_table.specs.Ways.{Name, are_names}
-use Rattle.node_table.specs.Tables.{cell_at, Spot, seen, IsSound}
+use Rattle.node_table.specs.Tables.{height_over, cell_at, Spot, seen, IsSound}
 use Rattle.node_table.specs.Rebuilt.{root_spot}
-use Rattle.tree_edits.specs.Edits.{Held, Touched, EditedTree, touched_at, held_from, shown_node, shown}
+use Rattle.tree_edits.specs.declared.held.Held.{Held}
+use Rattle.tree_edits.specs.Edits.{Touched, EditedTree, touched_at, held_from, shown_node, shown}
 use Rattle.tree_settling.specs.Merged.{AllMade, made_at, AreMerged}
 use Rattle.tree_settling.specs.Listed.{AreListed}
 
@@ -24,19 +25,20 @@ pub record IsSettled (rev : ℕ) (cells : List Cell) (edits : EditedTree) (more 
 abbrev pub entries_under : List Cell → Held → List Entry
 entries_under cells here = option_map_or (λ id. (cell_at cells id).entries) here.under []
 
--- the cell of what stands at a path: that node and line, and what was made in it over what the table has there
-pub record IsCellOf (cells : List Cell) (made : AllMade) (path : List ℕ) (here : Held) (cell : Cell) : Type 0 where
+-- the cell of what stands at a path: that node and line, what was made in it over what the table has there, and the height that goes with it in the table with the cells behind it
+pub record IsCellOf (cells more : List Cell) (made : AllMade) (path : List ℕ) (here : Held) (cell : Cell) : Type 0 where
   pub node : cell.node ≡ here.node
   pub line : cell.line ≡ here.line
   pub names : AllMade
   pub listed : AreListed path made names
   pub merged : AreMerged names (entries_under cells here) cell.entries
+  pub height : cell.height ≡ height_over (cells ++ more) cell.entries
 
 -- that cell is the one that was added
 pub record IsAdded (cells : List Cell) (made : AllMade) (path : List ℕ) (here : Held) (old new : List Cell) : Type 0 where
   pub cell : Cell
   pub is : new ≡ old ++ cell ∷ []
-  pub cell_is : IsCellOf cells made path here cell
+  pub cell_is : IsCellOf cells old made path here cell
 
 -- what was made of a path: nothing where nothing stands, and else a cell of it
 abbrev pub IsMadeOf : List Cell → AllMade → List ℕ → Option Held → List Cell → List Cell → List ℕ × Option ℕ → Type 0

@@ -4,6 +4,7 @@ ghost use Rattle.tree_settling.specs.Listed.{AreBehind};
 ghost use Rattle.tree_settling.specs.Settled.{IsCellOf, IsAdded, entries_under};
 
 use crate::copies::{copy_line, copy_node};
+use crate::heights::height_among;
 use crate::listing::listed;
 use crate::made::Made;
 use crate::merging::merged;
@@ -28,7 +29,7 @@ pub(crate) fn add(
     ensures number { IfOk result (λ id. id ≡ length cells.now + length more.old.items) }
     ensures added { OnOk result (IsAdded cells.now (reverse made.now) path.now held.now more.old.items more.new.items) }
 {
-    let cell = cell_for(alloc, cells, made, path, held)?;
+    let cell = cell_for(alloc, cells, more.as_slice(), made, path, held)?;
     let id = NodeId::of(cells.len() as u64 + more.len() as u64);
     more.push(cell)?;
     Ok(id)
@@ -37,6 +38,7 @@ pub(crate) fn add(
 fn cell_for(
     alloc: Global,
     cells: &[Cell],
+    more: &[Cell],
     made: &[Made],
     path: &[u8],
     held: &Held,
@@ -44,16 +46,18 @@ fn cell_for(
     requires sound { IsSound cells.now }
     requires within { (id : ℕ) → held.now.under ≡ Some id → id < length cells.now }
     requires behind { AreBehind path.now (reverse made.now) }
-    ensures { IfOk result (λ cell. IsCellOf cells.now (reverse made.now) path.now held.now cell) }
+    ensures { IfOk result (λ cell. IsCellOf cells.now more.now (reverse made.now) path.now held.now cell) }
 {
     let names = listed(alloc, path, made)?;
     let entries = merged(alloc, entries_under(cells, held), names.as_slice())?;
+    let height = height_among(cells, more, entries.get());
     let node = copy_node(alloc, &held.node)?;
     let line = copy_line(&held.line)?;
     Ok(Cell {
         node,
         line,
         entries,
+        height,
     })
 }
 

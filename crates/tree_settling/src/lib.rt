@@ -3,6 +3,7 @@
 
 mod adding;
 mod copies;
+mod heights;
 mod listing;
 mod made;
 mod merging;

@@ -1,6 +1,6 @@
-ghost use Rattle.std.specs.Prelude.{◌≡◌, ◌++◌, IfOk, OnOk, IsTrue, Some, reverse};
+ghost use Rattle.std.specs.Prelude.{◌≡◌, ◌+◌, ◌++◌, IfOk, OnOk, IsTrue, Some, length, drop, reverse};
 ghost use Rattle.std.specs.Option.{option_copied};
-ghost use Rattle.dsv_base.specs.Paths.{is_path, name_of, parent_text};
+ghost use Rattle.dsv_base.specs.Paths.{is_path, front_of, name_of, parent_text};
 ghost use Rattle.rev_nodes.specs.Entries.{is_child};
 ghost use Rattle.tree_settling.specs.Listed.{AreBehind, AreListed, listed_in};
 
@@ -19,13 +19,14 @@ pub(crate) fn listed<'a>(
     ensures { IfOk result (λ names. AreListed directory.now (reverse made.now) names.items) }
 {
     let mut names = Vec::new(alloc);
-    let mut rest = made;
-    'made: while let [front @ .., last] = rest {
-        if !last.at().starts_with(directory) {
+    let mut left = made.len();
+    'made: while left > 0 {
+        left -= 1;
+        let first = &made[left];
+        if !first.at().starts_with(directory) {
             return Ok(names);
         }
-        push_listed(&mut names, directory, last)?;
-        rest = front;
+        push_listed(&mut names, directory, first)?;
     }
     Ok(names)
 }
@@ -60,6 +61,19 @@ fn name_in<'a>(directory: &[u8], path: &'a [u8]) -> &'a [u8]
     requires child { parent_text path.now ≡ Some directory.now }
     ensures { result.now ≡ name_of path.now }
 {
-    let front = if directory == b"/".as_slice() { 0 } else { directory.len() };
-    &path[front + 1..]
+    behind(path, front_length(directory))
+}
+
+/// How much stands before the `/` of each child of the directory.
+fn front_length(directory: &[u8]) -> usize
+    ensures { result ≡ length (front_of directory.now) }
+{
+    if directory == b"/".as_slice() { 0 } else { directory.len() }
+}
+
+/// What stands behind a byte.
+fn behind(text: &[u8], at: usize) -> &[u8]
+    ensures { result.now ≡ drop (at + 1) text.now }
+{
+    if at < text.len() { &text[at + 1..] } else { &[] }
 }

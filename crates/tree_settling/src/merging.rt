@@ -27,10 +27,17 @@ pub(crate) fn merged(
     'changes: for change in changes {
         rest = merge_one(alloc, &mut all, rest, change)?;
     }
-    'rest: for entry in rest {
+    copy_all(&mut all, rest)?;
+    Ok(List::of(all))
+}
+
+fn copy_all(all: &mut Vec<Entry>, entries: &[Entry]) -> Result<(), NoMemory>
+    ensures { OnOk result (all.new.items ≡ all.old.items ++ entries.now) }
+{
+    'entries: for entry in entries {
         all.push(copy_entry(entry)?)?;
     }
-    Ok(List::of(all))
+    Ok(())
 }
 
 /// Adds the entries before a name, and what was made of it; gives those behind it.

@@ -43,11 +43,11 @@ fn settle_all<'a>(
     ensures { IfOk result (λ made. AreSettled cells.now touches.now more.new.items touches.now (reverse made.items)) }
 {
     let mut made = Vec::with_capacity(alloc, touches.len())?;
-    let mut rest = touches;
-    'touches: while let [front @ .., last] = rest {
-        let one = settle_one(alloc, cells, more, made.as_slice(), last)?;
+    let mut left = touches.len();
+    'touches: while left > 0 {
+        left -= 1;
+        let one = settle_one(alloc, cells, more, made.as_slice(), &touches[left])?;
         made.push(one)?;
-        rest = front;
     }
     Ok(made)
 }

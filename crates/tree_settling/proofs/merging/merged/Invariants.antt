@@ -5,6 +5,3 @@ use Rattle.tree_settling.proofs.merging.merged.Given as goal
 -- what is merged so far, and what the rest comes to, is all
 abbrev pub invariant-changes : goal.invariant-changes
 invariant-changes l = l.all.items ++ zipped (drop l.change-index l.changes) l.rest ≡ zipped l.changes l.entries
-
-abbrev pub invariant-rest : goal.invariant-rest
-invariant-rest l = l.all.items ++ drop l.entry-index l.rest ≡ zipped l.changes l.entries
