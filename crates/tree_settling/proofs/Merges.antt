@@ -8,7 +8,7 @@ use Rattle.std.specs.declared.cmp.Ordering.{Ordering}
 use Rattle.std.specs.declared.cmp.Ordering.TheVariants.{Less, Equal, Greater}
 use Rattle.std.specs.Cmp.{tied_itself}
 use Rattle.std.specs.Cmp.Lexicographic.{slice_cmp, nat_list_cmp_total}
-use Rattle.std.proofs.lemmas.List.{drop_more}
+use Rattle.std.proofs.lemmas.List.{drop_more, drop_all}
 use Rattle.std.proofs.lemmas.Map.Lookups.{exact_bytes}
 use Rattle.rev_nodes.specs.declared.entry.Entry.{Entry}
 use Rattle.rev_nodes.proofs.Search.{first_true, second_true, less_from}
@@ -148,7 +148,7 @@ zipped-rise (c ∷ cs) es h rise =
     let rest = behind c.0 es in
     let above : AreAbove c.0 (zipped cs rest) = zipped-above c.0 cs rest (first_true _ _ h) (behind-above c.0 es rise) in
     before-rise c.0 es (entry_made c.0 c.1 ++ zipped cs rest) rise (with_made c.1 above (zipped-rise cs rest (second_true _ _ h) (behind-rise c.0 es rise)))
-        (λ x less. made-above x c.0 c.1 (zipped cs rest) less (below_less x c.0 (map pair (zipped cs rest)) less above))
+    (λ x less. made-above x c.0 c.1 (zipped cs rest) less (below_less x c.0 (map pair (zipped cs rest)) less above))
   where
     with_made : (o : Option ℕ) → AreAbove c.0 (zipped cs (behind c.0 es)) → Rise (zipped cs (behind c.0 es)) → Rise (entry_made c.0 o ++ zipped cs (behind c.0 es))
     with_made None above go = go
@@ -206,3 +206,7 @@ merged_more changes i c old new rest after all less is so new_is after_is =
     ∙ append_assoc old (before c.0 rest) (entry_made c.0 c.1 ++ zipped (drop (i + 1) changes) (behind c.0 rest))
     ∙ ap (λ cs. old ++ zipped cs rest) (ap (λ (x : List ℕ × Option ℕ). x ∷ drop (i + 1) changes) is ∙ sym (drop_more changes i c less))
     ∙ so
+
+-- at the end the entries that are left follow
+pub merged_all : (changes : AllMade) (entries old rest all : List Entry) (i : ℕ) → length changes ≤ i → old ++ zipped (drop i changes) rest ≡ zipped changes entries → all ≡ old ++ rest → all ≡ zipped changes entries
+merged_all changes entries old rest all i past so all_is = all_is ∙ ap (λ cs. old ++ zipped cs rest) (sym (drop_all i changes past)) ∙ so

@@ -257,7 +257,7 @@ module _ (rev : ℕ) (cells : List Cell) (edits : EditedTree) (are : AreEdits re
           let found : touched_at (t ∷ ts) root_text ≡ Some t.1 = ap (λ p. touched_at (t ∷ ts) p) (sym first) ∙ find_first t.0 t.1 ts in
           let made : made_at (m ∷ ms) root_text ≡ Some m.1 = ap (λ p. made_at (m ∷ ms) p) (sym (same_from m.0 root_text e)) ∙ find_first m.0 m.1 ms in
           at_first t.1 m.1 refl refl (ap (λ xs. touched_at xs root_text) (sym is) ∙ found)
-              (subst (λ x. Agrees cells edits.touched (cells ++ more) root_text x (Some m.1)) found (subst (λ x. Agrees cells edits.touched (cells ++ more) root_text (touched_at (t ∷ ts) root_text) x) made (agree root_text)))
+          (subst (λ x. Agrees cells edits.touched (cells ++ more) root_text x (Some m.1)) found (subst (λ x. Agrees cells edits.touched (cells ++ more) root_text (touched_at (t ∷ ts) root_text) x) made (agree root_text)))
       by false e =
           let rising : T (is_sorted (slice_cmp nat_cmp) (t ∷ ts)) = T_from _ (ap (is_sorted (slice_cmp nat_cmp)) is ∙ are.touched.sorted) in
           let one = (are.touched.placed t.0 t.1 (ap (λ xs. touched_at xs t.0) (sym is) ∙ find_first t.0 t.1 ts)).one in

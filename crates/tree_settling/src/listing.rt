@@ -68,12 +68,20 @@ fn name_in<'a>(directory: &[u8], path: &'a [u8]) -> &'a [u8]
 fn front_length(directory: &[u8]) -> usize
     ensures { result ≡ length (front_of directory.now) }
 {
-    if directory == b"/".as_slice() { 0 } else { directory.len() }
+    if directory == b"/".as_slice() {
+        0
+    } else {
+        directory.len()
+    }
 }
 
 /// What stands behind a byte.
 fn behind(text: &[u8], at: usize) -> &[u8]
     ensures { result.now ≡ drop (at + 1) text.now }
 {
-    if at < text.len() { &text[at + 1..] } else { &[] }
+    if at < text.len() {
+        &text[at + 1..]
+    } else {
+        &[]
+    }
 }
