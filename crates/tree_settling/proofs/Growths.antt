@@ -1,18 +1,17 @@
 -- What edits show where nothing was touched, and what stays as the table grows.
-use Rattle.std.proofs.Common.{◌≡◌, ℕ, zero, suc, ◌+◌, ◌-◌, ◌<◌, ◌≤◌, Bool, true, false, cond, T, List, [], ◌∷◌, ◌++◌, Option, None, Some, length, refl, sym, ap, subst, ◌∙◌, arith, length-append}
-use Rattle.std.specs.Prelude.{IsTrue, if◌then◌else◌}
-use Rattle.std.specs.Option.{option_map, option_and_then}
+use Rattle.std.proofs.Common.{◌≡◌, ℕ, zero, suc, ◌-◌, ◌≤◌, Bool, true, false, List, [], ◌∷◌, ◌++◌, Option, None, Some, length, refl, sym, ap, ◌∙◌, arith, length-append}
+use Rattle.std.specs.Prelude.{if◌then◌else◌}
+use Rattle.std.specs.Option.{option_map}
 use Rattle.std.specs.Str.{bytes_eq}
 use Rattle.std.proofs.lemmas.Bool.{and_parts}
-use Rattle.dsv_base.specs.Paths.{is_path, is_component, parent_text, name_of, join_text, front_of, or_root, before_last_slash, root_text}
+use Rattle.dsv_base.specs.Paths.{is_component, parent_text, join_text, front_of, or_root, before_last_slash, root_text}
 use Rattle.dsv_base.proofs.Joins.{before_last, component_slash, component_some}
 use Rattle.rev_nodes.specs.declared.cell.Cell.{Cell}
 use Rattle.rev_nodes.specs.declared.line.Line.{Line}
-use Rattle.rev_nodes.specs.Trees.{TreeNode}
 use Rattle.rev_nodes.proofs.Below.{differ, same_from}
 use Rattle.node_table.specs.Ways.{Name, are_names}
-use Rattle.node_table.specs.Tables.{cell_at, child_in, Spot, spot_in, below_line, node_at, walk, seen, IsSound}
-use Rattle.node_table.proofs.Growing.{cell_at-kept, seen-kept, child_within, walk_none}
+use Rattle.node_table.specs.Tables.{cell_at, child_in, spot_in, below_line, node_at, seen, IsSound}
+use Rattle.node_table.proofs.Growing.{cell_at-kept, seen-kept, walk_none}
 use Rattle.node_table.proofs.Ways.{not_root, some_text, join-front}
 use Rattle.tree_edits.specs.declared.held.Held.{Held}
 use Rattle.tree_edits.specs.Edits.{Touched, touched_at, held_in, child_of, or_touched, held_from, shown_node}

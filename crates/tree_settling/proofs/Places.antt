@@ -1,28 +1,25 @@
 -- The cell of a touched place, behind those of all that stands below it.
-use Rattle.std.proofs.Common.{◌≡◌, ℕ, ◌+◌, ◌<◌, ◌≤◌, Bool, true, false, cond, T, List, [], ◌∷◌, ◌++◌, Option, None, Some, length, map, refl, sym, ap, subst, ◌∙◌, arith, length-append, append_assoc}
-use Rattle.std.specs.Prelude.{IsTrue, if◌then◌else◌, nat_le}
+use Rattle.std.proofs.Common.{◌≡◌, ℕ, ◌<◌, ◌≤◌, true, false, List, [], ◌∷◌, ◌++◌, Option, None, Some, length, map, refl, sym, ap, subst, ◌∙◌, arith, length-append, append_assoc}
+use Rattle.std.specs.Prelude.{IsTrue, if◌then◌else◌}
 use Rattle.std.specs.Option.{option_map, option_and_then, option_map_or}
-use Rattle.std.specs.FinMap.{is_sorted}
-use Rattle.std.specs.Ordering.{nat_cmp}
-use Rattle.std.specs.Cmp.Lexicographic.{slice_cmp}
 use Rattle.std.proofs.lemmas.Bool.{and_parts, le-leb}
-use Rattle.dsv_base.specs.Paths.{is_path, is_component, parent_text, join_text}
+use Rattle.dsv_base.specs.Paths.{is_component, join_text}
 use Rattle.rev_nodes.specs.declared.cell.Cell.{Cell}
 use Rattle.rev_nodes.specs.declared.entry.Entry.{Entry}
 use Rattle.rev_nodes.specs.declared.line.Line.{Line}
 use Rattle.rev_nodes.specs.declared.node.Node.{Node}
 use Rattle.rev_nodes.specs.Trees.{TreeNode, is_dir_kind}
 use Rattle.node_table.specs.Ways.{Name, are_names}
-use Rattle.node_table.specs.Tables.{pair, are_in_order, height_over, carried_line, cell_at, child, child_in, Spot, spot_in, below_line, node_at, seen, IsChild, IsCell, IsSound}
+use Rattle.node_table.specs.Tables.{pair, are_in_order, height_over, carried_line, cell_at, child, child_in, Spot, spot_in, below_line, seen, IsChild, IsSound}
 use Rattle.node_table.proofs.EntriesFound.{own_entry}
-use Rattle.node_table.proofs.Growing.{height_over-kept, cell_at-kept, cell_at-next, seen-kept, spot_in-kept, child_within, sound-more}
+use Rattle.node_table.proofs.Growing.{height_over-kept, cell_at-kept, cell_at-next, seen-kept, spot_in-kept, sound-more}
 use Rattle.tree_edits.specs.declared.held.Held.{Held}
 use Rattle.tree_edits.specs.Edits.{Touched, touched_at, held_in, child_of, or_touched, held_from, shown_node}
 use Rattle.tree_edits.specs.AreEdits.{AreTouched, IsHeld}
 use Rattle.tree_settling.specs.Merged.{AllMade, made_at, or_made}
 use Rattle.tree_settling.specs.Settled.{entries_under, IsCellOf, IsMadeAt, Agrees}
 use Rattle.tree_settling.proofs.Rising.{find_first}
-use Rattle.tree_settling.proofs.Growths.{IsSome, join-some, parent_of_join, held_none, seen_none, none_below, untouched}
+use Rattle.tree_settling.proofs.Growths.{IsSome, join-some, parent_of_join, held_none, seen_none, untouched}
 
 no_entries : (es : List Entry) → ((n : Name) → child n es ≡ None) → es ≡ []
 no_entries [] none = refl

@@ -1,29 +1,29 @@
 -- What was made in one directory, as it is gone through in byte order of the paths.
-use Rattle.std.proofs.Common.{◌≡◌, ℕ, suc, ◌+◌, ◌-◌, ◌<◌, ◌≤◌, Bool, true, false, ◌&&◌, cond, T, List, [], ◌∷◌, ◌++◌, Option, None, Some, length, take, drop, get_or, reverse, nat_eq, refl, sym, ap, subst, ◌∙◌, arith, append_assoc, append-nil, length-append}
-use Rattle.std.specs.Prelude.{IsTrue, if◌then◌else◌}
+use Rattle.std.proofs.Common.{◌≡◌, ℕ, suc, ◌+◌, ◌-◌, ◌≤◌, Bool, true, false, cond, T, List, [], ◌∷◌, ◌++◌, Option, None, Some, length, take, drop, get_or, reverse, nat_eq, refl, sym, ap, subst, ◌∙◌, arith, append_assoc, append-nil}
+use Rattle.std.specs.Prelude.{if◌then◌else◌}
 use Rattle.std.specs.List.{list_all, starts_with}
 use Rattle.std.specs.Option.{option_map_or}
 use Rattle.std.specs.Str.{bytes_eq}
-use Rattle.std.specs.FinMap.{find, is_sorted, nat_cmp-IsAntisymmetric}
+use Rattle.std.specs.FinMap.{is_sorted, nat_cmp-IsAntisymmetric}
 use Rattle.std.specs.FinMap.Entries.{below_all}
-use Rattle.std.specs.Ordering.{nat_cmp, is_lt, is_eq, eq_by_cmp, ordering_then, ordering_reverse}
+use Rattle.std.specs.Ordering.{nat_cmp, is_eq, eq_by_cmp, ordering_then, ordering_reverse}
 use Rattle.std.specs.declared.cmp.Ordering.{Ordering}
 use Rattle.std.specs.declared.cmp.Ordering.TheVariants.{Less, Equal, Greater}
 use Rattle.std.specs.Cmp.{tied_itself, nat_cmp_total}
-use Rattle.std.specs.Cmp.Lexicographic.{slice_cmp, nat_list_cmp_total}
+use Rattle.std.specs.Cmp.Lexicographic.{slice_cmp}
 use Rattle.std.proofs.lemmas.Bool.{and_parts, and_from, eqb-true, eq-eqb}
 use Rattle.std.proofs.lemmas.List.{take_all}
 use Rattle.std.proofs.lemmas.Map.Lookups.{exact_bytes}
 use Rattle.dsv_base.specs.Paths.{is_path, is_component, name_of, parent_text, join_text, front_of, root_text}
 use Rattle.dsv_base.proofs.Joins.{join_parent, name_is_component, parent_joined}
 use Rattle.rev_nodes.specs.Entries.{is_child}
-use Rattle.rev_nodes.proofs.Below.{same_from, equal_itself, parent_from, drop_front}
+use Rattle.rev_nodes.proofs.Below.{same_from, equal_itself, parent_from}
 use Rattle.rev_nodes.proofs.Search.{first_true, second_true, less_from}
 use Rattle.node_table.specs.Ways.{Name}
 use Rattle.node_table.proofs.Ways.{join-front}
 use Rattle.tree_settling.specs.Merged.{AllMade, made_at}
 use Rattle.tree_settling.specs.Listed.{AreBehind, AreListed, listed_in}
-use Rattle.tree_settling.proofs.Rising.{both, T_from, from_T, lt_from, find_below, find_less}
+use Rattle.tree_settling.proofs.Rising.{both, T_from, from_T, lt_from, find_less}
 use Rattle.tree_settling.proofs.Lists.{last_first}
 
 -- ---- texts with one front

@@ -1,25 +1,24 @@
 -- The touched paths from the last to the first, and the root.
-use Rattle.std.proofs.Common.{◌≡◌, ℕ, ◌+◌, ◌-◌, ◌<◌, ◌≤◌, Bool, true, false, ◌&&◌, cond, T, List, [], ◌∷◌, ◌++◌, Option, None, Some, length, map, take, get_or, reverse, refl, sym, ap, subst, ◌∙◌, arith, length-append, append_assoc, append-nil}
-use Rattle.std.specs.Prelude.{IsTrue, if◌then◌else◌}
+use Rattle.std.proofs.Common.{◌≡◌, ℕ, ◌+◌, ◌-◌, ◌<◌, ◌≤◌, Bool, true, false, ◌&&◌, cond, T, List, [], ◌∷◌, ◌++◌, Option, None, Some, length, map, take, get_or, refl, sym, ap, subst, ◌∙◌, arith, length-append, append_assoc, append-nil}
+use Rattle.std.specs.Prelude.{if◌then◌else◌}
 use Rattle.std.specs.List.{list_all}
 use Rattle.std.specs.Option.{option_map, unwrap_or}
 use Rattle.std.specs.Str.{bytes_eq}
-use Rattle.std.specs.FinMap.{find, is_sorted}
-use Rattle.std.specs.FinMap.Entries.{below_all}
+use Rattle.std.specs.FinMap.{is_sorted}
 use Rattle.std.specs.Ordering.{nat_cmp, is_eq, eq_by_cmp, ordering_then}
 use Rattle.std.specs.declared.cmp.Ordering.{Ordering}
 use Rattle.std.specs.declared.cmp.Ordering.TheVariants.{Less, Equal, Greater}
 use Rattle.std.specs.Cmp.{tied_itself, nat_cmp_total}
-use Rattle.std.specs.Cmp.Lexicographic.{slice_cmp, nat_list_cmp_total}
+use Rattle.std.specs.Cmp.Lexicographic.{slice_cmp}
 use Rattle.std.proofs.lemmas.Bool.{and_parts, and_from}
 use Rattle.std.proofs.lemmas.List.{take_all}
 use Rattle.std.proofs.lemmas.Map.Lookups.{exact_bytes}
-use Rattle.dsv_base.specs.Paths.{is_path, is_component, parent_text, join_text, front_of, root_text}
+use Rattle.dsv_base.specs.Paths.{is_path, is_component, parent_text, join_text, root_text}
 use Rattle.dsv_base.proofs.Joins.{component_some}
 use Rattle.rev_nodes.specs.declared.cell.Cell.{Cell}
 use Rattle.rev_nodes.specs.declared.line.Line.{Line}
 use Rattle.rev_nodes.specs.declared.node.Node.{Node}
-use Rattle.rev_nodes.proofs.Search.{first_true, second_true, less_from}
+use Rattle.rev_nodes.proofs.Search.{first_true, second_true}
 use Rattle.rev_nodes.proofs.Below.{same_from, long, some_text}
 use Rattle.node_table.specs.Ways.{Name, are_names}
 use Rattle.node_table.specs.Tables.{cell_at, seen, IsSound}
@@ -27,15 +26,14 @@ use Rattle.node_table.specs.Rebuilt.{root_spot}
 use Rattle.node_table.proofs.Growing.{cell_at-kept, seen-kept}
 use Rattle.node_table.proofs.Ways.{join-front}
 use Rattle.tree_edits.specs.declared.held.Held.{Held}
-use Rattle.tree_edits.specs.Edits.{Touched, EditedTree, touched_at, held_in, or_touched, held_root, held_from, shown_node, shown}
+use Rattle.tree_edits.specs.Edits.{Touched, EditedTree, touched_at, held_in, or_touched, held_from, shown_node, shown}
 use Rattle.tree_edits.specs.AreEdits.{AreTouched, AreEdits}
 use Rattle.tree_settling.specs.Merged.{AllMade, made_at}
 use Rattle.tree_settling.specs.Listed.{AreBehind}
 use Rattle.tree_settling.specs.Settled.{IsCellOf, IsMadeOf, IsMadeAt, Agrees, AreSettled, IsSettled, root_made}
-use Rattle.tree_settling.proofs.Rising.{both, below_less, T_from, from_T, lt_from, find_below, find_first, find_behind, find_between, below_one, sorted_end, below_texts, sorted_texts}
-use Rattle.tree_settling.proofs.Scans.{join_order}
-use Rattle.tree_settling.proofs.Lists.{with_last, reversed-push}
-use Rattle.tree_settling.proofs.Growths.{IsSome, seen_none, untouched, agrees-kept}
+use Rattle.tree_settling.proofs.Rising.{both, below_less, T_from, from_T, lt_from, find_below, find_first, find_behind, find_between, sorted_end, below_texts, sorted_texts}
+use Rattle.tree_settling.proofs.Lists.{with_last}
+use Rattle.tree_settling.proofs.Growths.{IsSome, untouched, agrees-kept}
 use Rattle.tree_settling.proofs.Places.{final_sound, final_made}
 
 -- ---- before the first turn

@@ -6,7 +6,7 @@ use Rattle.dsv_base.specs.Paths.{root_text}
 use Rattle.rev_nodes.specs.declared.cell.Cell.{Cell}
 use Rattle.rev_nodes.specs.declared.entry.Entry.{Entry}
 use Rattle.node_table.specs.Ways.{Name, are_names}
-use Rattle.node_table.specs.Tables.{height_over, cell_at, Spot, seen, IsSound}
+use Rattle.node_table.specs.Tables.{height_over, cell_at, seen, IsSound}
 use Rattle.node_table.specs.Rebuilt.{root_spot}
 use Rattle.tree_edits.specs.declared.held.Held.{Held}
 use Rattle.tree_edits.specs.Edits.{Touched, EditedTree, touched_at, held_from, shown_node, shown}

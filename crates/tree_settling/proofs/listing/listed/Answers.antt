@@ -1,4 +1,4 @@
-use Rattle.std.proofs.Common.{◌≡◌, List, false, reverse, nat_eq, sym, ap, ◌∙◌, arith}
+use Rattle.std.proofs.Common.{◌≡◌, false, reverse, nat_eq, sym, ap, ◌∙◌, arith}
 use Rattle.std.specs.List.{starts_with}
 use Rattle.tree_settling.proofs.Scans.{scan_listed, scan_stops, scan_ends}
 use Rattle.tree_settling.proofs.listing.listed.Goals as goal

@@ -1,4 +1,4 @@
-use Rattle.std.proofs.Common.{◌≡◌, ◌≤◌, reverse, refl, sym, ap, subst, ◌∙◌, arith}
+use Rattle.std.proofs.Common.{◌≤◌, reverse, refl, sym, ap, subst, ◌∙◌, arith}
 use Rattle.tree_settling.specs.Listed.{AreBehind}
 use Rattle.tree_settling.specs.Settled.{IsMadeOf}
 use Rattle.tree_settling.proofs.Lists.{reversed-push}

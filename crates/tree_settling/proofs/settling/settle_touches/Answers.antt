@@ -1,4 +1,4 @@
-use Rattle.std.proofs.Common.{◌≡◌, reverse, ap, ◌∙◌}
+use Rattle.std.proofs.Common.{reverse, ap, ◌∙◌}
 use Rattle.tree_edits.specs.Edits.{EditedTree}
 use Rattle.tree_settling.specs.Settled.{root_made}
 use Rattle.tree_settling.proofs.Turns.{all_settled}
