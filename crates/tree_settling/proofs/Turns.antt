@@ -1,5 +1,5 @@
 -- The touched paths from the last to the first, and the root.
-use Rattle.std.proofs.Common.{◌≡◌, ℕ, ◌+◌, ◌-◌, ◌<◌, ◌≤◌, Bool, true, false, ◌&&◌, cond, T, List, [], ◌∷◌, ◌++◌, Option, None, Some, length, map, take, get_or, refl, sym, ap, subst, ◌∙◌, arith, length-append, append_assoc, append-nil}
+use Rattle.std.proofs.Common.{◌≡◌, ℕ, suc, is_some, ◌+◌, ◌-◌, ◌<◌, ◌≤◌, Bool, true, false, ◌&&◌, cond, T, List, [], ◌∷◌, ◌++◌, Option, None, Some, length, map, take, get_or, refl, sym, ap, subst, ◌∙◌, arith, length-append, append_assoc, append-nil}
 use Rattle.std.specs.Prelude.{if◌then◌else◌}
 use Rattle.std.specs.List.{list_all}
 use Rattle.std.specs.Option.{option_map, unwrap_or}
@@ -30,7 +30,7 @@ use Rattle.tree_edits.specs.Edits.{Touched, EditedTree, touched_at, held_in, or_
 use Rattle.tree_edits.specs.AreEdits.{AreTouched, AreEdits}
 use Rattle.tree_settling.specs.Merged.{AllMade, made_at}
 use Rattle.tree_settling.specs.Listed.{AreBehind}
-use Rattle.tree_settling.specs.Settled.{IsCellOf, IsMadeOf, IsMadeAt, Agrees, AreSettled, IsSettled, root_made}
+use Rattle.tree_settling.specs.Settled.{IsCellOf, IsMadeOf, IsMadeAt, Agrees, AreSettled, IsSettled, standing, root_made}
 use Rattle.tree_settling.proofs.Rising.{both, below_less, T_from, from_T, lt_from, find_below, find_first, find_behind, find_between, sorted_end, below_texts, sorted_texts}
 use Rattle.tree_settling.proofs.Lists.{with_last}
 use Rattle.tree_settling.proofs.Growths.{IsSome, untouched, agrees-kept}
@@ -43,7 +43,7 @@ none_settled cells touched sound [] none = record {
   sound = subst IsSound (sym (append-nil cells)) sound;
   keys = refl;
   agree = λ path. tt;
-  few = omega arith;
+  count = refl;
 }
 none_settled cells touched sound (c ∷ cs) none = absurd (omega (arith, none))
 
@@ -114,7 +114,7 @@ module _ (rev : ℕ) (cells : List Cell) (touched : Touched) (sound : IsSound ce
       sound = so.sound;
       keys = ap (λ xs. path ∷ xs) so.keys;
       agree = λ p. by p (eq_by_cmp (slice_cmp nat_cmp) p path);
-      few = let f = so.few in omega (arith, f);
+      count = so.count;
     }
       where
         by : (p : List ℕ) (b : Bool) → Agrees cells touched (cells ++ more) p (cond b (Some None) (touched_at back p)) (cond b (Some None) (made_at made p))
@@ -127,7 +127,7 @@ module _ (rev : ℕ) (cells : List Cell) (touched : Touched) (sound : IsSound ce
       sound = subst IsSound whole final_sound_here;
       keys = ap (λ xs. path ∷ xs) so.keys;
       agree = λ p. subst (λ xs. Agrees cells touched xs p (touched_at ((path, Some here) ∷ back) p) (made_at ((path, Some (length (cells ++ more))) ∷ made) p)) whole (by p (slice_cmp nat_cmp p path) refl);
-      few = let f = so.few in omega (arith, f, length-append more (cell ∷ []));
+      count = let f = so.count in omega (arith, f, length-append more (cell ∷ []));
     }
       where
         whole : (cells ++ more) ++ cell ∷ [] ≡ cells ++ (more ++ cell ∷ [])
@@ -263,7 +263,15 @@ module _ (rev : ℕ) (cells : List Cell) (edits : EditedTree) (are : AreEdits re
           let less : slice_cmp nat_cmp root_text t.0 ≡ Less = ap (slice_cmp nat_cmp root_text) far.is in
           old_root (ap (λ xs. touched_at xs root_text) (sym is) ∙ find_below root_text (t ∷ ts) (both _ _ (lt_from _ less) (below_less root_text t.0 ts less (first_true _ _ rising))))
 
+standing_few : (touched : Touched) → standing touched ≤ length touched
+standing_few [] = omega arith
+standing_few (t ∷ ts) = by (is_some t.1) (standing_few ts)
+  where
+    by : (b : Bool) → standing ts ≤ length ts → (if b then suc (standing ts) else standing ts) ≤ suc (length ts)
+    by true go = omega (arith, go)
+    by false go = omega (arith, go)
+
 pub all_settled : (rev : ℕ) (cells : List Cell) (edits : EditedTree) (more : List Cell) (made : AllMade) (root : ℕ) → AreEdits rev cells edits → AreSettled cells edits.touched more edits.touched made → root ≡ root_made made edits.root → IsSettled rev cells edits more root
 all_settled rev cells edits more made root are so root_is =
     let r = root_by rev cells edits are more edits.touched refl made so.keys so.agree in
-    subst (λ k. IsSettled rev cells edits more k) (sym root_is) (record { sound = so.sound; within = r.within; created = r.created; shows = r.shows; few = so.few })
+    subst (λ k. IsSettled rev cells edits more k) (sym root_is) (record { sound = so.sound; within = r.within; created = r.created; shows = r.shows; count = so.count; few = let f = so.count in omega (arith, f, standing_few edits.touched) })

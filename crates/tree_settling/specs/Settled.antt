@@ -1,5 +1,5 @@
 -- Edits that came to be cells of the table.
-use Rattle.std.specs.Prelude.{ℕ, ◌≡◌, ◌≤◌, ◌<◌, ◌+◌, true, List, [], ◌∷◌, ◌++◌, Option, None, Some, map, length, if◌then◌else◌}
+use Rattle.std.specs.Prelude.{ℕ, suc, is_some, ◌≡◌, ◌≤◌, ◌<◌, ◌+◌, true, List, [], ◌∷◌, ◌++◌, Option, None, Some, map, length, if◌then◌else◌}
 use Rattle.std.specs.Option.{option_map, option_map_or, unwrap_or}
 use Rattle.std.specs.Str.{bytes_eq}
 use Rattle.dsv_base.specs.Paths.{root_text}
@@ -9,17 +9,40 @@ use Rattle.node_table.specs.Ways.{Name, are_names}
 use Rattle.node_table.specs.Tables.{height_over, cell_at, seen, IsSound}
 use Rattle.node_table.specs.Rebuilt.{root_spot}
 use Rattle.tree_edits.specs.declared.held.Held.{Held}
+use Rattle.tree_edits.specs.AreEdits.{AreTouched, AreEdits}
 use Rattle.tree_edits.specs.Edits.{Touched, EditedTree, touched_at, held_from, shown_node, shown}
 use Rattle.tree_settling.specs.Merged.{AllMade, made_at, AreMerged}
 use Rattle.tree_settling.specs.Listed.{AreListed}
 
--- new cells behind those of a table, no more than touched paths, with which it is sound, and a root that shows what the edits did
+-- how many of the touched paths have something that stands there
+abbrev pub standing : Touched → ℕ
+standing [] = 0
+standing (t ∷ ts) = if is_some t.1 then suc (standing ts) else standing ts
+
+-- new cells behind those of a table, one for each touched path where something stands, with which it is sound, and a root that shows what the edits did
 pub record IsSettled (rev : ℕ) (cells : List Cell) (edits : EditedTree) (more : List Cell) (root : ℕ) : Type 0 where
   pub sound : IsSound (cells ++ more)
   pub within : root < length (cells ++ more)
   pub created : (cell_at (cells ++ more) root).node.created ≤ rev
   pub shows : (ns : List Name) → are_names ns ≡ true → seen (cells ++ more) (Some (root_spot (cells ++ more) root)) ns ≡ shown cells edits ns
+  pub count : length more ≡ standing edits.touched
   pub few : length more ≤ length edits.touched
+
+-- edits over the tree of a root
+abbrev pub edits_of : ℕ → Touched → EditedTree
+edits_of root touched = record { root = root; touched = touched }
+
+-- whichever revision the edits are of, they are settled
+abbrev pub Settles : List Cell → EditedTree → List Cell → ℕ → Type 0
+Settles cells edits more root = (rev : ℕ) → AreEdits rev cells edits → IsSettled rev cells edits more root
+
+-- of some revision, what was touched is as edits leave it
+abbrev pub AreOfEdits : List Cell → Touched → Type 0
+AreOfEdits cells touched = (rev : ℕ) × AreTouched rev cells touched
+
+-- what an edit leaves stands on numbers of the table
+abbrev pub IsOnTable : List Cell → Option Held → Type 0
+IsOnTable cells edit = (here : Held) (id : ℕ) → edit ≡ Some here → here.under ≡ Some id → id < length cells
 
 -- what the table has in what stands at a place
 abbrev pub entries_under : List Cell → Held → List Entry
@@ -64,7 +87,7 @@ pub record AreSettled (cells : List Cell) (touched : Touched) (more : List Cell)
   pub sound : IsSound (cells ++ more)
   pub keys : map (λ m. m.0) made ≡ map (λ t. t.0) done
   pub agree : (path : List ℕ) → Agrees cells touched (cells ++ more) path (touched_at done path) (made_at made path)
-  pub few : length more ≤ length done
+  pub count : length more ≡ standing done
 
 -- what was made of `/`, which stands first, and else the old root
 abbrev pub root_made : AllMade → ℕ → ℕ

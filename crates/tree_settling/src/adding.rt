@@ -27,7 +27,8 @@ pub(crate) fn add(
     requires within { (id : ℕ) → held.now.under ≡ Some id → id < length cells.now }
     requires behind { AreBehind path.now (reverse made.now) }
     ensures number { IfOk result (λ id. id ≡ length cells.now + length more.old.items) }
-    ensures added { OnOk result (IsAdded cells.now (reverse made.now) path.now held.now more.old.items more.new.items) }
+    ensures added { OnOk result (
+        IsAdded cells.now (reverse made.now) path.now held.now more.old.items more.new.items) }
 {
     let cell = cell_for(alloc, cells, more.as_slice(), made, path, held)?;
     let id = NodeId::of(cells.len() as u64 + more.len() as u64);

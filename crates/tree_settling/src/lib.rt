@@ -8,7 +8,5 @@ mod listing;
 mod made;
 mod merging;
 mod settling;
-mod touch;
 
-pub use settling::settle_touches;
-pub use touch::Touch;
+pub use settling::{settle, settle_touches};

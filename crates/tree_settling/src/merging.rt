@@ -47,7 +47,8 @@ fn merge_one<'a>(
     entries: &'a [Entry],
     change: &Made,
 ) -> Result<&'a [Entry], NoMemory>
-    ensures all { OnOk result (all.new.items ≡ (all.old.items ++ before change.now.0 entries.now) ++ entry_made change.now.0 change.now.1) }
+    ensures all { OnOk result (all.new.items ≡
+        (all.old.items ++ before change.now.0 entries.now) ++ entry_made change.now.0 change.now.1) }
     ensures rest { IfOk result (λ rest. rest.now ≡ behind change.now.0 entries.now) }
 {
     let rest = copy_before(all, entries, change.at())?;

@@ -1,19 +1,33 @@
-ghost use Rattle.std.specs.Prelude.{◌≡◌, ◌<◌, ◌+◌, ◌++◌, ◌∷◌, ℕ, IfOk, OnOk, None, Some, length, reverse};
+ghost use Rattle.std.specs.Prelude.{◌≡◌, IfOk, length, reverse};
 ghost use Rattle.node_table.specs.Tables.{IsSound};
-ghost use Rattle.tree_edits.specs.declared.held.Held.{Held};
-ghost use Rattle.tree_edits.specs.AreEdits.{AreTouched, AreEdits};
 ghost use Rattle.tree_settling.specs.Listed.{AreBehind};
-ghost use Rattle.tree_settling.specs.Settled.{IsMadeOf, AreSettled, IsSettled, root_made};
+ghost use Rattle.tree_settling.specs.Settled.{edits_of, Settles, AreOfEdits, IsOnTable, IsMadeOf, AreSettled, root_made};
 
 use crate::adding::add;
 use crate::made::Made;
-use crate::touch::Touch;
 use dsv_base::NoMemory;
 use rev_nodes::{Cell, NodeId};
 use std::alloc::Global;
+use tree_edits::{Store, Touch};
 
 /// The cells that edits over the tree of a root come to behind those of the table, and the root that
-/// shows them. Without edits there are none, and the root is the old one.
+/// shows them. Without edits there are none, and the root is the old one. Its one error is want of
+/// memory.
+pub fn settle(
+    alloc: Global,
+    cells: &[Cell],
+    root: NodeId,
+    touched: &Store,
+) -> Result<(Vec<Cell>, NodeId), NoMemory>
+    requires sound { IsSound cells.now }
+    requires touched { AreOfEdits cells.now touched.now }
+    ensures { IfOk result (λ all. Settles cells.now (edits_of root touched.now) all.0.items all.1) }
+{
+    let touches = touched.touches(alloc)?;
+    settle_touches(alloc, cells, root, touches.as_slice())
+}
+
+/// The same of touched paths that stand in byte order.
 pub fn settle_touches(
     alloc: Global,
     cells: &[Cell],
@@ -21,8 +35,8 @@ pub fn settle_touches(
     touches: &[Touch],
 ) -> Result<(Vec<Cell>, NodeId), NoMemory>
     requires sound { IsSound cells.now }
-    requires touched { (rev : ℕ) × AreTouched rev cells.now touches.now }
-    ensures { (rev : ℕ) → AreEdits rev cells.now (record { root = root; touched = touches.now }) → IfOk result (λ all. IsSettled rev cells.now (record { root = root; touched = touches.now }) all.0.items all.1) }
+    requires touched { AreOfEdits cells.now touches.now }
+    ensures { IfOk result (λ all. Settles cells.now (edits_of root touches.now) all.0.items all.1) }
 {
     let mut more = Vec::new(alloc);
     let made = settle_all(alloc, cells, &mut more, touches)?;
@@ -39,8 +53,9 @@ fn settle_all<'a>(
 ) -> Result<Vec<Made<'a>>, NoMemory>
     requires none { length more.old.items ≡ 0 }
     requires sound { IsSound cells.now }
-    requires touched { (rev : ℕ) × AreTouched rev cells.now touches.now }
-    ensures { IfOk result (λ made. AreSettled cells.now touches.now more.new.items touches.now (reverse made.items)) }
+    requires touched { AreOfEdits cells.now touches.now }
+    ensures { IfOk result (λ made.
+        AreSettled cells.now touches.now more.new.items touches.now (reverse made.items)) }
 {
     let mut made = Vec::with_capacity(alloc, touches.len())?;
     let mut left = touches.len();
@@ -61,9 +76,10 @@ fn settle_one<'a>(
     touch: &Touch<'a>,
 ) -> Result<Made<'a>, NoMemory>
     requires sound { IsSound cells.now }
-    requires within { (here : Held) (id : ℕ) → touch.now.1 ≡ Some here → here.under ≡ Some id → id < length cells.now }
+    requires on { IsOnTable cells.now touch.now.1 }
     requires behind { AreBehind touch.now.0 (reverse made.now) }
-    ensures { IfOk result (λ one. IsMadeOf cells.now (reverse made.now) touch.now.0 touch.now.1 more.old.items more.new.items one) }
+    ensures { IfOk result (λ one.
+        IsMadeOf cells.now (reverse made.now) touch.now.0 touch.now.1 more.old.items more.new.items one) }
 {
     match touch.held() {
         None => Ok(Made::of(touch.path(), None)),

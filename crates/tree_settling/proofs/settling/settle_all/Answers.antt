@@ -11,8 +11,8 @@ touches-init c = record {
   turned = turned_first c.args.cells.now c.args.touches.now c.requires.sound c.args.more.now.items c.requires.none (reverse c.in_ok-made.made.items) (ap reverse c.in_ok-made.ensures.items) _ refl;
 }
 
-pub settle_one-requires-clause-within : goal.settle_one-requires-clause-within
-settle_one-requires-clause-within c =
+pub settle_one-requires-clause-on : goal.settle_one-requires-clause-on
+settle_one-requires-clause-on c =
     let some : 1 ≤ c.touches.left = (let h = c.touches-test.true in omega (arith, h)) in
     next_within c.args.cells.now c.args.touches.now c.touches.more.items (reverse c.touches.made.items) c.touches.left c.index-touches-left.result some c.touches.invariant.within c.index-touches-left.is c.touches.invariant.turned c.requires.touched c.requires.sound
 

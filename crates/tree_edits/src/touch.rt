@@ -1,8 +1,8 @@
 ghost use Rattle.std.specs.Prelude.{◌≡◌};
 ghost use Rattle.std.specs.Option.{option_copied};
 
+use crate::held::Held;
 use std::marker::Model;
-use tree_edits::Held;
 
 /// A path that an edit touched, with what stands there now, or that nothing does.
 #[derive(Drop)]
