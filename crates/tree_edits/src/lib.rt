@@ -2,8 +2,13 @@
 #![tactic(auto)]
 
 mod copies;
+mod hanging;
 mod held;
+mod looking;
+mod names;
+mod place;
 mod props;
 mod store;
 
 pub use held::Held;
+pub use place::Place;
