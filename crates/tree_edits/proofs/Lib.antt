@@ -5,3 +5,4 @@ pub mod Short
 pub mod Texts
 pub mod Over
 pub mod Views
+pub mod StepsDown

@@ -7,6 +7,7 @@ use Rattle.std.specs.Ordering.{nat_cmp, eq_by_cmp}
 use Rattle.std.specs.Str.{bytes_eq}
 use Rattle.std.specs.Cmp.Lexicographic.{slice_cmp}
 use Rattle.dsv_base.specs.Paths.{join_text, is_under, root_text}
+use Rattle.dsv_base.specs.declared.prop.Prop.{Prop}
 use Rattle.rev_nodes.specs.declared.cell.Cell.{Cell}
 use Rattle.rev_nodes.specs.declared.unfit.Unfit.{Unfit}
 use Rattle.rev_nodes.specs.declared.unfit.Unfit.TheVariants.{NoParent}
@@ -18,6 +19,14 @@ use Rattle.tree_edits.specs.Edits.{Held, Touched, EditedTree, touched_at, child_
 -- what stands at a place as a change at or below it leaves it
 abbrev pub marked_held : ℕ → Held → Held
 marked_held r here = record here { node = record here.node { created = r } }
+
+-- the same with another text
+abbrev pub with_text : ℕ → List ℕ → Held → Held
+with_text r text here = record here { node = record here.node { text = text; created = r } }
+
+-- the same with other properties
+abbrev pub with_props : ℕ → List Prop → Held → Held
+with_props r props here = record here { node = record here.node { props = props; created = r } }
 
 -- what stands one name below a place at a path
 abbrev pub child_held : List Cell → Touched → List ℕ → Name → Held → Option Held
@@ -54,3 +63,32 @@ hung_at r cells leaf edits ns = hung_in r cells leaf edits.touched root_text (he
 abbrev pub Hangs : {X : Type 0} → Option Touched → Touched → Touched → Result X Unfit → Type 0
 Hangs expected old new (Ok x) = expected ≡ Some new
 Hangs expected old new (Err why) = (new ≡ old) × MatchBool (is_want why) (Unit {0}) ((why ≡ NoParent) × (expected ≡ None))
+
+-- what is left at the end of a way below a place that is marked already
+abbrev pub hung_below : ℕ → List Cell → Option Held → Touched → List ℕ → Held → List Name → Option Touched
+hung_below r cells leaf touched path above [] = None
+hung_below r cells leaf touched path above (n ∷ ns) = hung_in r cells leaf touched (join_text path n) (child_held cells touched path n above) ns
+
+-- a directory stands there
+abbrev pub stands_dir : Option Held → Bool
+stands_dir None = false
+stands_dir (Some here) = is_dir_kind here.node.kind
+
+-- a directory was marked, and this is the revision that it had if it was touched before
+pub record IsMarked (r : ℕ) (place : Option Held) (path : List ℕ) (old new : Touched) (before : Option ℕ) : Type 0 where
+  pub here : Held
+  pub is : place ≡ Some here
+  pub dir : is_dir_kind here.node.kind ≡ true
+  pub made : new ≡ marked_at r path here old
+  pub fresh : before ≡ None → touched_at old path ≡ None
+  pub touched : (created : ℕ) → before ≡ Some created → (touched_at old path ≡ Some (Some here)) × (here.node.created ≡ created)
+
+-- a directory at a path is marked, or there is none and nothing is changed; want of memory is free
+abbrev pub Touches : ℕ → Option Held → List ℕ → Touched → Touched → Result (Option ℕ) Unfit → Type 0
+Touches r place path old new (Ok before) = IsMarked r place path old new before
+Touches r place path old new (Err why) = (new ≡ old) × MatchBool (is_want why) (Unit {0}) ((why ≡ NoParent) × (stands_dir place ≡ false))
+
+-- what a mark added is taken back
+abbrev pub Untouches : Option ℕ → List ℕ → Touched → Touched → Type 0
+Untouches None path old new = new ≡ without_edit path old
+Untouches (Some created) path old new = (here : Held) → touched_at old path ≡ Some (Some here) → new ≡ marked_at created path here old

@@ -2,11 +2,17 @@
 #![tactic(auto)]
 
 mod copies;
+mod hanging;
 mod held;
+mod looking;
+mod names;
+mod place;
 mod props;
 mod store;
 mod touch;
 
+pub use copies::{copy_line, copy_node};
 pub use held::Held;
+pub use place::Place;
 pub use store::Store;
 pub use touch::Touch;

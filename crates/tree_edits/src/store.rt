@@ -48,7 +48,7 @@ impl Store {
     }
 
     /// Adds a path. Its one error is want of memory, which can come only where it wasn't touched.
-    fn add(&mut self, alloc: Global, path: &[u8], edit: Option<Held>) -> Result<(), NoMemory>
+    pub(crate) fn add(&mut self, alloc: Global, path: &[u8], edit: Option<Held>) -> Result<(), NoMemory>
         ensures done { OnOk result (self.new ≡ with_edit path.now edit self.old) }
         ensures kept { OnErr result (self.new ≡ self.old) }
     {
@@ -58,7 +58,7 @@ impl Store {
     }
 
     /// Puts another edit at a path that was touched.
-    fn set(&mut self, path: &[u8], edit: Option<Held>)
+    pub(crate) fn set(&mut self, path: &[u8], edit: Option<Held>)
         requires sorted { is_sorted (slice_cmp nat_cmp) self.old ≡ true }
         requires there { is_some (touched_at self.old path.now) ≡ true }
         ensures { self.new ≡ with_edit path.now edit self.old }
@@ -69,7 +69,7 @@ impl Store {
     }
 
     /// Sets the revision of what stands at a touched path.
-    fn stamp(&mut self, path: &[u8], created: Rev)
+    pub(crate) fn stamp(&mut self, path: &[u8], created: Rev)
         requires sorted { is_sorted (slice_cmp nat_cmp) self.old ≡ true }
         ensures { (here : HeldRecord) → touched_at self.old path.now ≡ Some (Some here) →
             self.new ≡ marked_at created path.now here self.old }
@@ -82,7 +82,7 @@ impl Store {
     }
 
     /// Takes a path out.
-    fn remove(&mut self, path: &[u8])
+    pub(crate) fn remove(&mut self, path: &[u8])
         ensures { self.new ≡ without_edit path.now self.old }
     {
         self.map.remove(path);
