@@ -1,7 +1,18 @@
-//! Edits over a tree of a table of nodes.
+//! Changes of a commit as edits over a table of shared nodes, which stays as it is.
 #![tactic(auto)]
 
-mod edits;
+mod copies;
+mod hanging;
 mod held;
+mod looking;
+mod names;
+mod place;
+mod props;
+mod store;
+mod touch;
 
-pub use edits::Edits;
+pub use copies::{copy_line, copy_node};
+pub use held::Held;
+pub use place::Place;
+pub use store::Store;
+pub use touch::Touch;
