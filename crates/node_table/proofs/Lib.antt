@@ -9,4 +9,5 @@ pub mod Found
 pub mod HeightLaws
 pub mod LineLaws
 pub mod Numbers
+pub mod ForestLaws
 pub mod Roots

@@ -7,7 +7,8 @@ ghost use Rattle.node_table.specs.Tables.{cell_at, reach, IsSound};
 ghost use Rattle.node_table.specs.Rebuilt.{root_spot, IsLonger};
 ghost use Rattle.node_table.specs.Steps.{IsBase};
 ghost use Rattle.node_table.specs.Rooms.{IsKept};
-ghost use Rattle.node_table.specs.Lines.{line_seen, ComeFromPaths};
+ghost use Rattle.node_table.specs.Lines.{ComeFromPaths};
+ghost use Rattle.node_table.specs.Numbers.{IsIdAt, IsLineAt, IsNodeOf, AreEntriesOf};
 
 use crate::lines::line_at;
 use crate::new_cells::new_cell;
@@ -77,7 +78,8 @@ impl Table {
     /// The node of a number.
     pub fn node(&self, id: NodeId) -> &Node
         requires { id < length self.now.cells }
-        ensures { result.now ≡ (cell_at self.now.cells id).node }
+        ensures node { result.now ≡ (cell_at self.now.cells id).node }
+        ensures shown { IsNodeOf self.now.cells id result.now }
     {
         &cell_of(self.nodes.as_slice(), id).node
     }
@@ -85,7 +87,8 @@ impl Table {
     /// What stands in it, in byte order of the names; nothing in a file.
     pub fn entries(&self, id: NodeId) -> &[Entry]
         requires { id < length self.now.cells }
-        ensures { result.now ≡ (cell_at self.now.cells id).entries }
+        ensures entries { result.now ≡ (cell_at self.now.cells id).entries }
+        ensures shown { AreEntriesOf self.now.cells id result.now }
     {
         cell_of(self.nodes.as_slice(), id).entries.get()
     }
@@ -93,7 +96,8 @@ impl Table {
     /// The number at a path of the tree of a root.
     pub fn look(&self, root: NodeId, path: &Path) -> Option<NodeId>
         requires { root < length self.now.cells }
-        ensures { result ≡ reach self.now.cells (Some root) (names_in path.now) }
+        ensures number { result ≡ reach self.now.cells (Some root) (names_in path.now) }
+        ensures shown { IsIdAt self.now.cells root path.now result }
     {
         place_at(self.nodes.as_slice(), root, path)
     }
@@ -103,7 +107,7 @@ impl Table {
     pub fn line(&self, root: NodeId, path: &Path) -> Result<Option<Line>, NoMemory>
         requires within { root < length self.now.cells }
         requires paths { ComeFromPaths self.now.cells (root_spot self.now.cells root) }
-        ensures { IfOk result (λ found. found ≡ line_seen self.now.cells (root_spot self.now.cells root) (names_in path.now)) }
+        ensures { IfOk result (IsLineAt self.now.cells root path.now) }
     {
         line_at(self.nodes.as_slice(), root, path)
     }
