@@ -9,5 +9,4 @@ pub mod Found
 pub mod HeightLaws
 pub mod LineLaws
 pub mod Numbers
-pub mod ForestLaws
 pub mod Roots

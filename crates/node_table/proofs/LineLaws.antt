@@ -1,5 +1,5 @@
 -- The lines that are seen are those of the tree that a root shows.
-use Rattle.std.proofs.Common.{◌≡◌, ℕ, true, List, [], ◌∷◌, Option, None, Some, Result, Ok, Err, IfOk, refl, sym, ap, subst, ◌∙◌}
+use Rattle.std.proofs.Common.{◌≡◌, ℕ, true, List, [], ◌∷◌, Option, None, Some, refl, sym, ap, subst, ◌∙◌}
 use Rattle.std.specs.List.{All}
 use Rattle.std.specs.Option.{option_map}
 use Rattle.std.proofs.lemmas.Bool.{and_from}
@@ -14,7 +14,6 @@ use Rattle.node_table.specs.Tables.{below_line, cell_at, child_in, Spot, spot_in
 use Rattle.node_table.specs.Rebuilt.{root_spot}
 use Rattle.node_table.specs.Shown.{IsShown}
 use Rattle.node_table.specs.Lines.{line_seen, ComeFromPaths}
-use Rattle.node_table.specs.Numbers.{IsLineAt}
 use Rattle.node_table.proofs.PathNames.{names_of_path}
 use Rattle.node_table.proofs.Growing.{walk_none}
 
@@ -76,8 +75,3 @@ module _ (cells : List Cell) (root : ℕ) (tree : Tree) (is : IsShown cells root
       by : (o : Option Spot) → option_map (λ (s : Spot). s.line) o ≡ option_map (λ (found : TreeNode). found.line) (option_map (node_at cells) o)
       by None = refl
       by (Some s) = refl
-
--- what was answered of the line that is seen is said of the tree
-pub are_lines : {E : Type 0} (cells now : List Cell) (root : ℕ) (path : List ℕ) (result : Result (Option Line) E) → cells ≡ now → is_path path ≡ true → IfOk result (λ found. found ≡ line_seen cells (root_spot cells root) (names_in path)) → IfOk result (IsLineAt now root path)
-are_lines cells now root path (Ok line) same one seen = λ tree is. seen ∙ ap (λ xs. line_seen xs (root_spot xs root) (names_in path)) same ∙ line_is now root tree is path one
-are_lines cells now root path (Err e) same one seen = tt

@@ -12,7 +12,6 @@ use Rattle.std.proofs.lemmas.Bool.{and_from}
 use Rattle.std.proofs.lemmas.List.Elements.{All-map, All-from_get_or}
 use Rattle.dsv_base.specs.Paths.{is_path, is_component, root_text, join_text}
 use Rattle.rev_nodes.specs.declared.cell.Cell.{Cell}
-use Rattle.rev_nodes.specs.declared.entry.Entry.{Entry}
 use Rattle.rev_nodes.specs.declared.kind.Kind.TheVariants.{File}
 use Rattle.rev_nodes.specs.declared.node.Node.{Node}
 use Rattle.rev_nodes.specs.Trees.{TreeNode, Tree, at}
@@ -27,7 +26,7 @@ use Rattle.node_table.specs.Ways.{Name, are_names, path_at, names_in}
 use Rattle.node_table.specs.Tables.{cell_at, child_in, reach, walk, node_at, IsSound}
 use Rattle.node_table.specs.Rebuilt.{root_spot}
 use Rattle.node_table.specs.Shown.{IsShown}
-use Rattle.node_table.specs.Numbers.{number_at, numbered_place, numbered, id_at, node_at as numbered_node, IsIdAt, IsNodeOf, AreEntriesOf}
+use Rattle.node_table.specs.Numbers.{number_at, numbered_place, numbered}
 use Rattle.node_table.proofs.Ways.{path_at-more, names-append}
 use Rattle.node_table.proofs.Fronts.{names-back}
 use Rattle.node_table.proofs.PathNames.{names_of_path}
@@ -110,7 +109,7 @@ module _ (cells : List Cell) (root : ℕ) (tree : Tree) (is : IsShown cells root
       by (Some id) r = absurd (let f = found_as cells root tree is.shown path one id r in let t = f.at_path in cc (t, e))
 
   -- what is found with a number among the places is led to by it
-  pub numbered_at : (path : List ℕ) (id : ℕ) → id_at cells root tree path ≡ Some id → IsLed cells root tree path id
+  pub numbered_at : (path : List ℕ) (id : ℕ) → option_map (λ (p : Numbered). p.id) (find (slice_cmp nat_cmp) path (numbered cells root tree)) ≡ Some id → IsLed cells root tree path id
   numbered_at path id e = by (at path tree) refl (sym (ap (option_map (λ (p : Numbered). p.id)) (find-numbered cells root path tree)) ∙ e)
     where
       by : (o : Option TreeNode) → at path tree ≡ o → option_map (λ (p : Numbered). p.id) (option_map (with_number cells root path) o) ≡ Some id → IsLed cells root tree path id
@@ -177,16 +176,16 @@ module _ (cells : List Cell) (root : ℕ) (tree : Tree) (is : IsShown cells root
 
 -- the same node stands at both, with the same entries
 pub record AreAlikeHere (cells : List Cell) (root : ℕ) (tree : Tree) (path : List ℕ) (other : ℕ) (others : Tree) (there : List ℕ) : Type 0 where
-  pub nodes : numbered_node cells root tree path ≡ numbered_node cells other others there
+  pub nodes : option_map (λ (p : Numbered). p.here.node) (find (slice_cmp nat_cmp) path (numbered cells root tree)) ≡ option_map (λ (p : Numbered). p.here.node) (find (slice_cmp nat_cmp) there (numbered cells other others))
   pub entries : entries_in path (numbered cells root tree) ≡ entries_in there (numbered cells other others)
 
-node_led : (cells : List Cell) (root : ℕ) (tree : Tree) (path : List ℕ) (id : ℕ) → IsLed cells root tree path id → numbered_node cells root tree path ≡ Some (cell_at cells id).node
+node_led : (cells : List Cell) (root : ℕ) (tree : Tree) (path : List ℕ) (id : ℕ) → IsLed cells root tree path id → option_map (λ (p : Numbered). p.here.node) (find (slice_cmp nat_cmp) path (numbered cells root tree)) ≡ Some (cell_at cells id).node
 node_led cells root tree path id led =
     ap (option_map (λ (p : Numbered). p.here.node)) (find-numbered cells root path tree ∙ ap (option_map (with_number cells root path)) led.there)
     ∙ ap (λ (n : Node). Some n) led.node
 
 pub alike : (cells : List Cell) → IsSound cells → (root : ℕ) (tree : Tree) → IsShown cells root tree → in_order tree ≡ true → (other : ℕ) (others : Tree) → IsShown cells other others → in_order others ≡ true → (path there : List ℕ) (id : ℕ)
-    → id_at cells root tree path ≡ Some id → id_at cells other others there ≡ Some id
+    → option_map (λ (p : Numbered). p.id) (find (slice_cmp nat_cmp) path (numbered cells root tree)) ≡ Some id → option_map (λ (p : Numbered). p.id) (find (slice_cmp nat_cmp) there (numbered cells other others)) ≡ Some id
     → AreAlikeHere cells root tree path other others there
 alike cells sound root tree is sorted other others other_is other_sorted path there id e f =
     let here = numbered_at cells root tree is path id e in
@@ -195,20 +194,3 @@ alike cells sound root tree is sorted other others other_is other_sorted path th
       nodes = node_led cells root tree path id here ∙ sym (node_led cells other others there id same);
       entries = sym (entries_at cells root tree is sound sorted path id here) ∙ entries_at cells other others other_is sound other_sorted there id same;
     }
-
--- ---- for the code
-
-pub is_id : (cells : List Cell) (root : ℕ) (path : List ℕ) (id : Option ℕ) → is_path path ≡ true → id ≡ reach cells (Some root) (names_in path) → IsIdAt cells root path id
-is_id cells root path id one id_is tree is = id_is ∙ by (at path tree) refl ∙ sym (ap (option_map (λ (p : Numbered). p.id)) (find-numbered cells root path tree))
-  where
-    by : (o : Option TreeNode) → at path tree ≡ o → reach cells (Some root) (names_in path) ≡ option_map (λ (p : Numbered). p.id) (option_map (with_number cells root path) (at path tree))
-    by None t = nowhere cells root tree is path one t ∙ ap (λ (p : Option TreeNode). option_map (λ (q : Numbered). q.id) (option_map (with_number cells root path) p)) (sym t)
-    by (Some found) t =
-        let h = stands_at cells root tree is path found t in
-        h.is_led.led ∙ ap (λ (k : ℕ). Some k) (sym h.number) ∙ ap (λ (p : Option TreeNode). option_map (λ (q : Numbered). q.id) (option_map (with_number cells root path) p)) (sym t)
-
-pub is_node : (cells : List Cell) (id : ℕ) (node : Node) → node ≡ (cell_at cells id).node → IsNodeOf cells id node
-is_node cells id node node_is root tree path is e = node_led cells root tree path id (numbered_at cells root tree is path id e) ∙ ap (λ (n : Node). Some n) (sym node_is)
-
-pub are_entries : (cells : List Cell) → IsSound cells → (id : ℕ) (entries : List Entry) → entries ≡ (cell_at cells id).entries → AreEntriesOf cells id entries
-are_entries cells sound id entries entries_are root tree path is sorted e = entries_are ∙ entries_at cells root tree is sound sorted path id (numbered_at cells root tree is path id e)

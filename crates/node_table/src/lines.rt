@@ -90,9 +90,8 @@ pub fn line_at(cells: &[Cell], root: NodeId, path: &Path) -> Result<Option<Line>
     requires sound { IsSound cells.now }
     requires within { root < length cells.now }
     requires paths { ComeFromPaths cells.now (root_spot cells.now root) }
-    ensures line { IfOk result (λ found.
+    ensures { IfOk result (λ found.
         found ≡ line_seen cells.now (root_spot cells.now root) (names_in path.now)) }
-    ensures path { IsTrue (is_path path.now) }
 {
     let line = &cell_of(cells, root).line;
     match below_root(path.text()) {

@@ -7,8 +7,7 @@ ghost use Rattle.node_table.specs.Tables.{cell_at, reach, IsSound};
 ghost use Rattle.node_table.specs.Rebuilt.{root_spot, IsLonger};
 ghost use Rattle.node_table.specs.Steps.{IsBase};
 ghost use Rattle.node_table.specs.Rooms.{IsKept};
-ghost use Rattle.node_table.specs.Lines.{ComeFromPaths};
-ghost use Rattle.node_table.specs.Numbers.{IsIdAt, IsLineAt, IsNodeOf, AreEntriesOf};
+ghost use Rattle.node_table.specs.Lines.{line_seen, ComeFromPaths};
 
 use crate::lines::line_at;
 use crate::new_cells::new_cell;
@@ -78,8 +77,7 @@ impl Table {
     /// The node of a number.
     pub fn node(&self, id: NodeId) -> &Node
         requires { id < length self.now.cells }
-        ensures node { result.now ≡ (cell_at self.now.cells id).node }
-        ensures shown { IsNodeOf self.now.cells id result.now }
+        ensures { result.now ≡ (cell_at self.now.cells id).node }
     {
         &cell_of(self.nodes.as_slice(), id).node
     }
@@ -87,8 +85,7 @@ impl Table {
     /// What stands in it, in byte order of the names; nothing in a file.
     pub fn entries(&self, id: NodeId) -> &[Entry]
         requires { id < length self.now.cells }
-        ensures entries { result.now ≡ (cell_at self.now.cells id).entries }
-        ensures shown { AreEntriesOf self.now.cells id result.now }
+        ensures { result.now ≡ (cell_at self.now.cells id).entries }
     {
         cell_of(self.nodes.as_slice(), id).entries.get()
     }
@@ -96,8 +93,7 @@ impl Table {
     /// The number at a path of the tree of a root.
     pub fn look(&self, root: NodeId, path: &Path) -> Option<NodeId>
         requires { root < length self.now.cells }
-        ensures number { result ≡ reach self.now.cells (Some root) (names_in path.now) }
-        ensures shown { IsIdAt self.now.cells root path.now result }
+        ensures { result ≡ reach self.now.cells (Some root) (names_in path.now) }
     {
         place_at(self.nodes.as_slice(), root, path)
     }
@@ -107,7 +103,8 @@ impl Table {
     pub fn line(&self, root: NodeId, path: &Path) -> Result<Option<Line>, NoMemory>
         requires within { root < length self.now.cells }
         requires paths { ComeFromPaths self.now.cells (root_spot self.now.cells root) }
-        ensures { IfOk result (IsLineAt self.now.cells root path.now) }
+        ensures { IfOk result (λ found.
+            found ≡ line_seen self.now.cells (root_spot self.now.cells root) (names_in path.now)) }
     {
         line_at(self.nodes.as_slice(), root, path)
     }
