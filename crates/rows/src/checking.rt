@@ -13,8 +13,9 @@ pub fn check_all(alloc: Global, book: &mut Book) -> Result<Report> {
     let names = book.row_files(alloc)?;
     'files: for name in &names {
         report.enter(name.clone()?);
-        check_file(alloc, book, &mut rows, &mut report, name.as_str())
-            .context(format_args!("{name}"))?;
+        check_file(alloc, book, &mut rows, &mut report, name.as_str()).context(format_args!(
+            "{name}"
+        ))?;
     }
     Ok(report)
 }
@@ -28,8 +29,9 @@ fn check_file(
 ) -> Result<()> {
     'blocks: for block in blocks_in(alloc, book, name)? {
         let number = block.number;
-        check_block(alloc, book, rows, report, block)
-            .context(format_args!("the heading of line {number}"))?;
+        check_block(alloc, book, rows, report, block).context(format_args!(
+            "the heading of line {number}"
+        ))?;
     }
     Ok(())
 }
@@ -62,13 +64,7 @@ fn add_text(alloc: Global, book: &mut Book, block: Block) -> Result<()> {
     book.add(block.name, bytes)
 }
 
-fn check_row(
-    alloc: Global,
-    book: &Book,
-    kind: &str,
-    row: &Row,
-    report: &mut Report,
-) -> Result<()> {
+fn check_row(alloc: Global, book: &Book, kind: &str, row: &Row, report: &mut Report) -> Result<()> {
     match kind {
         "setting" => Ok(()),
         "run" => report.count(row.name.as_str(), check_run(alloc, book, row)?),

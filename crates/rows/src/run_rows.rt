@@ -201,12 +201,7 @@ fn status_differs(alloc: Global, row: &Row, status: Status) -> Result<Option<Str
     difference(alloc, "status", wanted.as_bytes(), came.get())
 }
 
-fn texts_differ(
-    alloc: Global,
-    book: &Book,
-    row: &Row,
-    after: &MemWorld,
-) -> Result<Option<String>> {
+fn texts_differ(alloc: Global, book: &Book, row: &Row, after: &MemWorld) -> Result<Option<String>> {
     let found = text_differs(alloc, book, row, "out", after.sink.taken())?;
     if found.is_some() {
         return Ok(found);

@@ -162,11 +162,7 @@ fn serve_all(
 }
 
 /// Serves one connection, and says where it differs.
-fn serve(
-    alloc: Global,
-    served: &mut Served,
-    connection: &Connection,
-) -> Result<Option<String>> {
+fn serve(alloc: Global, served: &mut Served, connection: &Connection) -> Result<Option<String>> {
     let mut sink = sink_failing(alloc, connection)?;
     let mut source = source_failing(alloc, connection, served.cutting)?;
     let end = serve_connection(
