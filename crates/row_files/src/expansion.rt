@@ -11,7 +11,9 @@ pub fn expand(alloc: Global, book: &Book, text: &str) -> Result<Vec<u8>> {
     put_text(alloc, book, text, &mut out);
     match out.end() {
         Some(bytes) => Ok(bytes),
-        None => bail!("an escape that is none, a text that doesn't stand above, or no memory: {text}"),
+        None => bail!(
+            "an escape that is none, a text that doesn't stand above, or no memory: {text}"
+        ),
     }
 }
 

@@ -1,6 +1,6 @@
 use crate::reading::users_of;
 use crate::requests::{feed, put_login, put_logins, put_next, put_request, request_in};
-use http_front::{Front, Next, Users};
+use http_front::{Front, Next, Request, Users};
 use row_files::{Answer, Given};
 use std::alloc::Global;
 
@@ -50,13 +50,17 @@ fn answer_of_users(table: MessageTable, users: &Users, given: &Given<'_>, out: &
 
 /// Answers a row on the last request of the pieces in the columns.
 fn answer_of_request(table: MessageTable, users: &Users, given: &Given<'_>, out: &mut Answer) {
-    let Some(request) = request_in(users, given) else {
-        return out.put(b"no request");
-    };
+    match request_in(users, given) {
+        Some(request) => put_of_request(table, &request, out),
+        None => out.put(b"no request"),
+    }
+}
+
+fn put_of_request(table: MessageTable, request: &Request, out: &mut Answer) {
     match table {
         MessageTable::Last => out.put_word(request.last),
         MessageTable::Login => put_login(&request.login, out),
-        _ => put_request(&request, out),
+        _ => put_request(request, out),
     }
 }
 
@@ -135,9 +139,14 @@ fn take_one(front: &mut Front, users: &Users, taken: &mut Taken) -> bool {
 }
 
 fn put_end(front: &mut Front, users: &Users, last: bool, out: &mut Answer) {
-    match front.next(users) {
-        Next::More => out.put(rest_word(last, front.idle())),
-        next => put_next(&next, out),
+    let next = front.next(users);
+    put_end_of(&next, rest_word(last, front.idle()), out);
+}
+
+fn put_end_of(next: &Next, rest: &[u8], out: &mut Answer) {
+    match next {
+        Next::More => out.put(rest),
+        _ => put_next(next, out),
     }
 }
 
@@ -174,8 +183,11 @@ fn put_piece(front: &mut Front, users: &Users, piece: &[u8], out: &mut Answer) {
 
 /// Writes the next answer, and says whether it is a request.
 fn put_answer(front: &mut Front, users: &Users, out: &mut Answer) -> bool {
-    let next = front.next(users);
-    put_next(&next, out);
+    put_next_of_several(&front.next(users), out)
+}
+
+fn put_next_of_several(next: &Next, out: &mut Answer) -> bool {
+    put_next(next, out);
     match next {
         Next::Request(_) => {
             out.put(b", ");

@@ -114,8 +114,12 @@ fn put_login_of(users: &Users, alloc: Global, token: &[u8], out: &mut Answer) {
     feed(&mut front, b"GET / HTTP/1.1\r\nAuthorization: Basic ", out);
     feed(&mut front, token, out);
     feed(&mut front, b"\r\n\r\n", out);
-    match front.next(users) {
+    put_login_in(&front.next(users), out);
+}
+
+fn put_login_in(next: &Next, out: &mut Answer) {
+    match next {
         Next::Request(request) => put_login(&request.login, out),
-        next => put_next(&next, out),
+        _ => put_next(next, out),
     }
 }

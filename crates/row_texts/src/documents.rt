@@ -79,7 +79,11 @@ const PIECES: [(&str, Piece); 7] = [
 fn put_piece(writer: &mut Writer, text: &str, bytes: &[u8]) -> Option<()> {
     let (kind, words) = text.split_once(' ')?;
     let (_, rest) = cut_at(bytes, b' ')?;
-    match named(&PIECES, kind)? {
+    put_piece_of(writer, named(&PIECES, kind)?, words, rest)
+}
+
+fn put_piece_of(writer: &mut Writer, kind: Piece, words: &str, rest: &[u8]) -> Option<()> {
+    match kind {
         Piece::Start => writer.start(rest).ok(),
         Piece::End => writer.end(rest).ok(),
         Piece::Empty => writer.empty(rest).ok(),

@@ -110,7 +110,11 @@ fn put_keeps(keeper: &mut MemKeeper, texts: &str, out: &mut Answer) {
         put_keep(keeper, text, out);
     }
     out.put(b" |");
-    'kept: for (number, text) in keeper.kept() {
+    put_kept(keeper.kept(), out);
+}
+
+fn put_kept(kept: &[(Rev, Bytes)], out: &mut Answer) {
+    'kept: for (number, text) in kept {
         out.put(b" ");
         out.put_number(u64::from(number.get()));
         out.put(b" ");
@@ -120,7 +124,11 @@ fn put_keeps(keeper: &mut MemKeeper, texts: &str, out: &mut Answer) {
 
 fn put_keep(keeper: &mut MemKeeper, words: &str, out: &mut Answer) {
     let (number, text) = words.split_once(' ').unwrap_or((words, ""));
-    match number.parse::<u32>().ok().and_then(|number| Rev::of(number)) {
+    match number
+        .parse::<u32>()
+        .ok()
+        .and_then(|number| Rev::of(number))
+    {
         Some(number) => out.put_item(word_of(keeper.keep(number, text.as_bytes()))),
         None => out.give_up(),
     }

@@ -26,7 +26,10 @@ const TABLES: [(&str, Table); 28] = [
     ("blank line, skipped line", Table::Text(TextTable::Skipped)),
     ("cut text", Table::Text(TextTable::Cut)),
     ("number", Table::Text(TextTable::Number)),
-    ("name of a user, of a repository", Table::Text(TextTable::Name)),
+    (
+        "name of a user, of a repository",
+        Table::Text(TextTable::Name),
+    ),
     ("path", Table::Path(PathTable::Path)),
     ("path in a URL", Table::Path(PathTable::InUrl)),
     ("path under a path", Table::Path(PathTable::Under)),

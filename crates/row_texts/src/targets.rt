@@ -101,6 +101,10 @@ fn resource_of(alloc: Global, text: &str, bytes: &[u8]) -> Option<Resource> {
     }
     let (kind, words) = text.split_once(' ')?;
     let (_, rest) = cut_at(bytes, b' ')?;
+    told_resource_of(alloc, kind, words, rest)
+}
+
+fn told_resource_of(alloc: Global, kind: &str, words: &str, rest: &[u8]) -> Option<Resource> {
     match kind {
         "path" => public_of(alloc, rest),
         "rvr" => rvr_of(alloc, words, rest),

@@ -10,17 +10,30 @@ use std::alloc::Global;
 pub fn check_all(alloc: Global, book: &mut Book) -> Result<Report> {
     let mut report = Report::new(alloc);
     let mut rows = Vec::new(alloc);
-    for name in book.row_files(alloc)? {
-        let blocks = blocks_in(alloc, book, name.as_str()).context(format_args!("{name}"))?;
+    let names = book.row_files(alloc)?;
+    'files: for name in &names {
         report.enter(name.clone()?);
-        for block in blocks {
-            let number = block.number;
-            check_block(alloc, book, &mut rows, &mut report, block).context(format_args!(
-                "{name}, the heading of line {number}"
-            ))?;
-        }
+        check_file(alloc, book, &mut rows, &mut report, name.as_str()).context(format_args!(
+            "{name}"
+        ))?;
     }
     Ok(report)
+}
+
+fn check_file(
+    alloc: Global,
+    book: &mut Book,
+    rows: &mut Vec<Row>,
+    report: &mut Report,
+    name: &str,
+) -> Result<()> {
+    'blocks: for block in blocks_in(alloc, book, name)? {
+        let number = block.number;
+        check_block(alloc, book, rows, report, block).context(format_args!(
+            "the heading of line {number}"
+        ))?;
+    }
+    Ok(())
 }
 
 fn blocks_in(alloc: Global, book: &Book, name: &str) -> Result<Vec<Block>> {
@@ -37,19 +50,27 @@ fn check_block(
     block: Block,
 ) -> Result<()> {
     if block.kind.as_str() == "text" {
-        let bytes = expand(alloc, book, block.text.as_str())?;
-        return book.add(block.name, bytes);
+        return add_text(alloc, book, block);
     }
     let kind = block.kind.clone()?;
     let row = Row::of(alloc, rows.as_slice(), block)?;
-    match kind.as_str() {
-        "setting" => {}
-        "run" => report.count(row.name.as_str(), check_run(alloc, book, &row)?)?,
-        "talk" => report.count(row.name.as_str(), check_talk(alloc, book, &row)?)?,
-        "runs" => check_runs(alloc, book, &row, report)?,
-        "table" => check_table(alloc, book, &row, report)?,
-        _ => bail!("no such kind: {kind}"),
-    }
+    check_row(alloc, book, kind.as_str(), &row, report)?;
     rows.push(row)?;
     Ok(())
+}
+
+fn add_text(alloc: Global, book: &mut Book, block: Block) -> Result<()> {
+    let bytes = expand(alloc, book, block.text.as_str())?;
+    book.add(block.name, bytes)
+}
+
+fn check_row(alloc: Global, book: &Book, kind: &str, row: &Row, report: &mut Report) -> Result<()> {
+    match kind {
+        "setting" => Ok(()),
+        "run" => report.count(row.name.as_str(), check_run(alloc, book, row)?),
+        "talk" => report.count(row.name.as_str(), check_talk(alloc, book, row)?),
+        "runs" => check_runs(alloc, book, row, report),
+        "table" => check_table(alloc, book, row, report),
+        _ => bail!("no such kind: {kind}"),
+    }
 }

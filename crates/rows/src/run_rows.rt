@@ -1,9 +1,9 @@
 use crate::cut::{CutSource, Cutting};
 use anyhow::{Result, bail};
 use davsvn_run::{Status, World, run};
-use dsv_base::{Bytes, Rev};
+use dsv_base::{Bytes, Rev, decimal_text};
 use dsv_outside::{MemClock, MemFiles, MemKeeper, MemSink, MemSource};
-use row_files::{Book, Row, difference, expand};
+use row_files::{Answer, Book, Line, Row, difference, expand};
 use row_texts::moments_in;
 use std::alloc::Global;
 
@@ -75,18 +75,46 @@ fn world_of(
     input: &[u8],
     cutting: Cutting,
 ) -> Result<MemWorld> {
-    let source = MemSource::new(
-        Bytes::of(alloc, input)?,
-        row.numbers(alloc, "source fails")?,
-    );
+    let (sink, errors) = sinks_of(alloc, row)?;
+    let (clock, keeper) = clock_and_keeper_of(alloc, row)?;
+    let (source, files) = source_and_files_of(alloc, book, row, input)?;
     Ok(World {
         source: CutSource { source, cutting },
-        sink: sink_of(alloc, row, "sink fails")?,
-        errors: sink_of(alloc, row, "errors fail")?,
-        clock: clock_of(alloc, row)?,
-        files: files_of(alloc, book, row)?,
-        keeper: keeper_of(alloc, row)?,
+        sink,
+        errors,
+        clock,
+        files,
+        keeper,
     })
+}
+
+fn sinks_of(alloc: Global, row: &Row) -> Result<(MemSink, MemSink)> {
+    let sink = sink_of(alloc, row, "sink fails")?;
+    let errors = sink_of(alloc, row, "errors fail")?;
+    Ok((sink, errors))
+}
+
+fn clock_and_keeper_of(alloc: Global, row: &Row) -> Result<(MemClock, MemKeeper)> {
+    let clock = clock_of(alloc, row)?;
+    let keeper = keeper_of(alloc, row)?;
+    Ok((clock, keeper))
+}
+
+fn source_and_files_of(
+    alloc: Global,
+    book: &Book,
+    row: &Row,
+    input: &[u8],
+) -> Result<(MemSource, MemFiles)> {
+    let source = source_of(alloc, input, row.numbers(alloc, "source fails")?)?;
+    let files = files_of(alloc, book, row)?;
+    Ok((source, files))
+}
+
+/// A source of these bytes, which fails at the calls of these numbers.
+pub fn source_of(alloc: Global, input: &[u8], failing: Vec<u64>) -> Result<MemSource> {
+    let bytes = Bytes::of(alloc, input)?;
+    Ok(MemSource::new(bytes, failing))
 }
 
 fn sink_of(alloc: Global, row: &Row, fails: &str) -> Result<MemSink> {
@@ -106,21 +134,41 @@ pub fn keeper_of(alloc: Global, row: &Row) -> Result<MemKeeper> {
 
 /// The files that the row tells: a line `file NAME: TEXT` makes one, and `no file: NAME` takes it away.
 fn files_of(alloc: Global, book: &Book, row: &Row) -> Result<MemFiles> {
+    let failing = row.numbers(alloc, "files fail")?;
+    let contents = contents_of(alloc, book, row)?;
+    Ok(MemFiles::new(contents, failing))
+}
+
+fn contents_of(alloc: Global, book: &Book, row: &Row) -> Result<Vec<(Bytes, Bytes)>> {
     let mut files = Vec::new(alloc);
     'lines: for line in &row.lines {
-        let made = line.key.strip_prefix("file ");
-        let name = match made {
-            Some(name) => name.as_bytes(),
-            None if line.key.as_str() == "no file" => line.value.as_bytes(),
-            None => continue,
-        };
-        remove_file(&mut files, name);
-        if made.is_some() {
-            let text = expand(alloc, book, line.value.as_str())?;
-            files.push((Bytes::of(alloc, name)?, Bytes::from_vec(text)))?;
-        }
+        take_file(alloc, book, &mut files, line)?;
     }
-    Ok(MemFiles::new(files, row.numbers(alloc, "files fail")?))
+    Ok(files)
+}
+
+/// Makes the file that a line tells, or takes it away. Other lines tell none.
+fn take_file(
+    alloc: Global,
+    book: &Book,
+    files: &mut Vec<(Bytes, Bytes)>,
+    line: &Line,
+) -> Result<()> {
+    match line.key.strip_prefix("file ") {
+        Some(name) => {
+            remove_file(files, name.as_bytes());
+            files.push(file_of(alloc, book, name, line.value.as_str())?)?;
+        }
+        None if line.key.as_str() == "no file" => remove_file(files, line.value.as_bytes()),
+        None => {}
+    }
+    Ok(())
+}
+
+fn file_of(alloc: Global, book: &Book, name: &str, text: &str) -> Result<(Bytes, Bytes)> {
+    let name = Bytes::of(alloc, name.as_bytes())?;
+    let text = expand(alloc, book, text)?;
+    Ok((name, Bytes::from_vec(text)))
 }
 
 fn remove_file(files: &mut Vec<(Bytes, Bytes)>, name: &[u8]) {
@@ -135,19 +183,40 @@ fn differs(
     status: Status,
     after: &MemWorld,
 ) -> Result<Option<String>> {
-    let out = row.bytes(alloc, book, "out")?;
-    let line = row.bytes(alloc, book, "line")?;
-    let wanted = match row.find("status") {
-        Some(number) => number.parse::<u8>()?,
-        None => 0,
-    };
-    let status = format!(in alloc; "{}", status.0)?;
-    let wanted = format!(in alloc; "{wanted}")?;
-    let status = difference(alloc, "status", wanted.as_bytes(), status.as_bytes())?;
-    let out = difference(alloc, "out", out.as_slice(), after.sink.taken())?;
-    let line = difference(alloc, "line", line.as_slice(), after.errors.taken())?;
-    let kept = kept_differs(alloc, book, row, after.keeper.kept())?;
-    Ok(status.or(out).or(line).or(kept))
+    let found = status_differs(alloc, row, status)?;
+    if found.is_some() {
+        return Ok(found);
+    }
+    let found = texts_differ(alloc, book, row, after)?;
+    if found.is_some() {
+        return Ok(found);
+    }
+    kept_differs(alloc, book, row, after.keeper.kept())
+}
+
+fn status_differs(alloc: Global, row: &Row, status: Status) -> Result<Option<String>> {
+    let came = decimal_text(alloc, u64::from(status.0))?;
+    let wanted = row.find("status").unwrap_or("0");
+    difference(alloc, "status", wanted.as_bytes(), came.get())
+}
+
+fn texts_differ(alloc: Global, book: &Book, row: &Row, after: &MemWorld) -> Result<Option<String>> {
+    let found = text_differs(alloc, book, row, "out", after.sink.taken())?;
+    if found.is_some() {
+        return Ok(found);
+    }
+    text_differs(alloc, book, row, "line", after.errors.taken())
+}
+
+fn text_differs(
+    alloc: Global,
+    book: &Book,
+    row: &Row,
+    key: &str,
+    came: &[u8],
+) -> Result<Option<String>> {
+    let wanted = row.bytes(alloc, book, key)?;
+    difference(alloc, key, wanted.as_slice(), came)
 }
 
 /// Where other texts were kept than the lines `kept: N TEXT` of the row tell, if anywhere.
@@ -157,19 +226,37 @@ pub fn kept_differs(
     row: &Row,
     kept: &[(Rev, Bytes)],
 ) -> Result<Option<String>> {
+    let wanted = kept_wanted(alloc, book, row)?;
+    let mut came = Answer::new(alloc);
+    put_kept(kept, &mut came);
+    match came.end() {
+        Some(came) => difference(alloc, "kept", wanted.as_slice(), came.as_slice()),
+        None => bail!("no memory"),
+    }
+}
+
+fn kept_wanted(alloc: Global, book: &Book, row: &Row) -> Result<Vec<u8>> {
     let mut wanted = Vec::new(alloc);
-    for line in &row.lines {
+    'lines: for line in &row.lines {
         if line.key.as_str() == "kept" {
-            wanted.extend_from_slice(expand(alloc, book, line.value.as_str())?.as_slice())?;
-            wanted.push(b'\n')?;
+            add_kept(alloc, book, &mut wanted, line.value.as_str())?;
         }
     }
-    let mut came = Vec::new(alloc);
-    for (number, text) in kept {
-        let number = format!(in alloc; "{} ", number.get())?;
-        came.extend_from_slice(number.as_bytes())?;
-        came.extend_from_slice(text.get())?;
-        came.push(b'\n')?;
+    Ok(wanted)
+}
+
+fn add_kept(alloc: Global, book: &Book, wanted: &mut Vec<u8>, text: &str) -> Result<()> {
+    let bytes = expand(alloc, book, text)?;
+    wanted.extend_from_slice(bytes.as_slice())?;
+    wanted.push(b'\n')?;
+    Ok(())
+}
+
+fn put_kept(kept: &[(Rev, Bytes)], out: &mut Answer) {
+    'kept: for (number, text) in kept {
+        out.put_number(u64::from(number.get()));
+        out.put(b" ");
+        out.put(text.get());
+        out.put(b"\n");
     }
-    difference(alloc, "kept", wanted.as_slice(), came.as_slice())
 }

@@ -8,14 +8,28 @@ use std::alloc::Global;
 pub fn check_runs(alloc: Global, book: &Book, table: &Row, report: &mut Report) -> Result<()> {
     'rows: for line in &table.lines {
         if line.key.as_str() == "-" {
-            let number = line.number;
-            let name = format!(in alloc; "{}, line {number}", table.name)?;
-            let row = varied(alloc, table, line).context(name.as_str())?;
-            let difference = check_run(alloc, book, &row).context(name.as_str())?;
-            report.count(name.as_str(), difference)?;
+            check_row(alloc, book, table, line, report)?;
         }
     }
     Ok(())
+}
+
+fn check_row(
+    alloc: Global,
+    book: &Book,
+    table: &Row,
+    line: &Line,
+    report: &mut Report,
+) -> Result<()> {
+    let number = line.number;
+    let name = format!(in alloc; "{}, line {number}", table.name)?;
+    let difference = check_line(alloc, book, table, line).context(name.as_str())?;
+    report.count(name.as_str(), difference)
+}
+
+fn check_line(alloc: Global, book: &Book, table: &Row, line: &Line) -> Result<Option<String>> {
+    let row = varied(alloc, table, line)?;
+    check_run(alloc, book, &row)
 }
 
 /// The row of `run` that a line of a table tells.
@@ -23,24 +37,35 @@ fn varied(alloc: Global, table: &Row, line: &Line) -> Result<Row> {
     let Some((given, wanted)) = line.value.split_once(" => ") else {
         bail!("not a row `- GIVEN => WANTED`");
     };
+    let mut lines = shared_lines(alloc, table)?;
+    lines.push(line_told(alloc, table, "vary", "given", given)?)?;
+    lines.push(line_told(alloc, table, "tell", "wanted", wanted)?)?;
+    row_of(table.name.as_str(), alloc, lines)
+}
+
+fn row_of(name: &str, alloc: Global, lines: Vec<Line>) -> Result<Row> {
+    let name = String::from_str(alloc, name)?;
+    Ok(Row { name, lines })
+}
+
+/// The lines that all rows of the table have.
+fn shared_lines(alloc: Global, table: &Row) -> Result<Vec<Line>> {
     let mut lines = Vec::new(alloc);
     'lines: for line in &table.lines {
         if line.key.as_str() != "-" {
             lines.push(line.copy()?)?;
         }
     }
-    lines.push(Line {
-        number: line.number,
-        key: String::from_str(alloc, table.value("vary"))?,
-        value: filled(alloc, table.find("given"), given)?,
-    })?;
-    lines.push(Line {
-        number: line.number,
-        key: String::from_str(alloc, table.value("tell"))?,
-        value: filled(alloc, table.find("wanted"), wanted)?,
-    })?;
-    Ok(Row {
-        name: table.name.clone()?,
-        lines,
+    Ok(lines)
+}
+
+/// A line whose key the table tells by `key`, with the columns in the table's form.
+fn line_told(alloc: Global, table: &Row, key: &str, form: &str, columns: &str) -> Result<Line> {
+    let key = String::from_str(alloc, table.value(key))?;
+    let value = filled(alloc, table.find(form), columns)?;
+    Ok(Line {
+        number: 0,
+        key,
+        value,
     })
 }

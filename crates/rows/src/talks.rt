@@ -1,12 +1,13 @@
 use crate::cut::{CutSource, Cutting};
-use crate::run_rows::{clock_of, cuttings_of, keeper_of, kept_differs};
+use crate::run_rows::{clock_of, cuttings_of, keeper_of, kept_differs, source_of};
 use anyhow::{Result, bail};
 use authz_check::Policy;
 use dav_machine::{Hub, Solo};
 use dav_serve::{ServeEnd, serve_connection};
 use dsv_base::Bytes;
-use dsv_outside::{MemClock, MemKeeper, MemSink, MemSource};
+use dsv_outside::{MemClock, MemKeeper, MemSink};
 use http_front::Users;
+use rev_trees::Trees;
 use row_files::{Book, Line, Row, difference, expand, numbers_in};
 use row_inputs::{rules_of, trees_of, users_of};
 use std::alloc::Global;
@@ -45,19 +46,26 @@ fn connections_of(alloc: Global, book: &Book, row: &Row) -> Result<Vec<Connectio
     let mut connections = Vec::new(alloc);
     'lines: for line in &row.lines {
         if line.key.as_str() == "connection" {
-            connections.push(Connection {
-                name: line.value.clone()?,
-                input: Vec::new(alloc),
-                source_fails: Vec::new(alloc),
-                sink_fails: Vec::new(alloc),
-                output: Vec::new(alloc),
-                end: String::from_str(alloc, "ended")?,
-            })?;
+            connections.push(connection_named(alloc, line.value.as_str())?)?;
         } else if let Some(connection) = connections.last_mut() {
             take_line(alloc, book, connection, line)?;
         }
     }
     Ok(connections)
+}
+
+/// A connection without input, output and faults.
+fn connection_named(alloc: Global, name: &str) -> Result<Connection> {
+    let name = String::from_str(alloc, name)?;
+    let end = String::from_str(alloc, "ended")?;
+    Ok(Connection {
+        name,
+        input: Vec::new(alloc),
+        source_fails: Vec::new(alloc),
+        sink_fails: Vec::new(alloc),
+        output: Vec::new(alloc),
+        end,
+    })
 }
 
 /// Takes what a line tells of a connection. Other lines are of the whole conversation.
@@ -82,50 +90,116 @@ fn check_once(
     connections: &[Connection],
     cutting: Cutting,
 ) -> Result<Option<String>> {
-    let users = users_of(alloc, row.bytes(alloc, book, "file users")?.as_slice())?;
-    let mut clock = clock_of(alloc, row)?;
-    let mut solo = Solo::new(hub_of(alloc, book, row)?);
-    'connections: for connection in connections {
-        let difference = serve(alloc, &mut solo, &mut clock, &users, connection, cutting)?;
-        if difference.is_some() {
-            return Ok(difference);
-        }
+    let mut served = served_of(alloc, book, row, cutting)?;
+    let found = serve_all(alloc, &mut served, connections)?;
+    if found.is_some() {
+        return Ok(found);
     }
-    let (_, keeper) = solo.end().end();
+    let (_, keeper) = served.solo.end().end();
     kept_differs(alloc, book, row, keeper.kept())
+}
+
+/// What connections are served by.
+#[derive(Drop)]
+struct Served {
+    users: Users,
+    clock: MemClock,
+    solo: Solo<MemKeeper>,
+    cutting: Cutting,
+}
+
+fn served_of(alloc: Global, book: &Book, row: &Row, cutting: Cutting) -> Result<Served> {
+    let users = users_in(alloc, book, row)?;
+    let clock = clock_of(alloc, row)?;
+    let hub = hub_of(alloc, book, row)?;
+    Ok(Served {
+        users,
+        clock,
+        solo: Solo::new(hub),
+        cutting,
+    })
+}
+
+fn users_in(alloc: Global, book: &Book, row: &Row) -> Result<Users> {
+    let file = row.bytes(alloc, book, "file users")?;
+    Ok(users_of(alloc, file.as_slice())?)
+}
+
+fn trees_in(alloc: Global, book: &Book, row: &Row) -> Result<Trees> {
+    let file = row.bytes(alloc, book, "file script")?;
+    Ok(trees_of(alloc, file.as_slice())?)
+}
+
+fn policy_in(alloc: Global, book: &Book, row: &Row, name: &[u8]) -> Result<Policy> {
+    let file = row.bytes(alloc, book, "file rules")?;
+    let rules = rules_of(alloc, file.as_slice())?;
+    Ok(Policy::new(alloc, &rules, name)?)
 }
 
 /// A hub over the row's files `script` and `rules`.
 fn hub_of(alloc: Global, book: &Book, row: &Row) -> Result<Hub<MemKeeper>> {
-    let trees = trees_of(alloc, row.bytes(alloc, book, "file script")?.as_slice())?;
-    let rules = rules_of(alloc, row.bytes(alloc, book, "file rules")?.as_slice())?;
-    let policy = Policy::new(alloc, &rules, trees.name())?;
-    match Hub::new(alloc, trees, policy, keeper_of(alloc, row)?) {
+    let keeper = keeper_of(alloc, row)?;
+    let trees = trees_in(alloc, book, row)?;
+    let policy = policy_in(alloc, book, row, trees.name())?;
+    match Hub::new(alloc, trees, policy, keeper) {
         Ok(hub) => Ok(hub),
         Err(_) => bail!("no memory"),
     }
 }
 
-/// Serves one connection, and says where it differs.
-fn serve(
+fn serve_all(
     alloc: Global,
-    solo: &mut Solo<MemKeeper>,
-    clock: &mut MemClock,
-    users: &Users,
-    connection: &Connection,
-    cutting: Cutting,
+    served: &mut Served,
+    connections: &[Connection],
 ) -> Result<Option<String>> {
-    let input = Bytes::of(alloc, connection.input.as_slice())?;
-    let source = MemSource::new(input, connection.source_fails.clone()?);
-    let mut source = CutSource { source, cutting };
-    let mut sink = MemSink::new(Vec::new(alloc), connection.sink_fails.clone()?);
-    let end = serve_connection(alloc, solo, &mut source, &mut sink, clock, users);
-    let part = format!(in alloc; "connection {}", connection.name)?;
-    let wanted = connection.output.as_slice();
-    let output = difference(alloc, part.as_str(), wanted, sink.taken())?;
-    let wanted = connection.end.as_bytes();
-    let end = difference(alloc, part.as_str(), wanted, end_word(end).as_bytes())?;
-    Ok(output.or(end))
+    'connections: for connection in connections {
+        let found = serve(alloc, served, connection)?;
+        if found.is_some() {
+            return Ok(found);
+        }
+    }
+    Ok(None)
+}
+
+/// Serves one connection, and says where it differs.
+fn serve(alloc: Global, served: &mut Served, connection: &Connection) -> Result<Option<String>> {
+    let mut sink = sink_failing(alloc, connection)?;
+    let mut source = source_failing(alloc, connection, served.cutting)?;
+    let end = serve_connection(
+        alloc,
+        &mut served.solo,
+        &mut source,
+        &mut sink,
+        &mut served.clock,
+        &served.users,
+    );
+    served_otherwise(alloc, connection, sink.taken(), end_word(end))
+}
+
+fn sink_failing(alloc: Global, connection: &Connection) -> Result<MemSink> {
+    let failing = connection.sink_fails.clone()?;
+    Ok(MemSink::new(Vec::new(alloc), failing))
+}
+
+fn source_failing(alloc: Global, connection: &Connection, cutting: Cutting) -> Result<CutSource> {
+    let failing = connection.source_fails.clone()?;
+    let source = source_of(alloc, connection.input.as_slice(), failing)?;
+    Ok(CutSource { source, cutting })
+}
+
+/// Where a connection's output or end is another than the row tells, if anywhere.
+fn served_otherwise(
+    alloc: Global,
+    connection: &Connection,
+    output: &[u8],
+    end: &str,
+) -> Result<Option<String>> {
+    let part = connection.name.as_str();
+    let found = difference(alloc, part, connection.output.as_slice(), output)?;
+    if found.is_some() {
+        return Ok(found);
+    }
+    difference(alloc, part, connection.end.as_bytes(), end.as_bytes())
 }
 
 fn end_word(end: ServeEnd) -> &'static str {
