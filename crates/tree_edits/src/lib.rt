@@ -2,6 +2,7 @@
 #![tactic(auto)]
 
 mod copies;
+mod edits;
 mod hanging;
 mod held;
 mod looking;
@@ -10,5 +11,6 @@ mod place;
 mod props;
 mod store;
 
+pub use edits::Edits;
 pub use held::Held;
 pub use place::Place;
