@@ -8,4 +8,4 @@ mod made;
 mod merging;
 mod settling;
 
-pub use settling::{settle, settle_touches};
+pub use settling::settle;
