@@ -4,7 +4,6 @@ use anyhow::{Result, bail};
 use authz_check::Policy;
 use dav_machine::{Hub, Solo};
 use dav_serve::{ServeEnd, serve_connection};
-use dsv_base::Bytes;
 use dsv_outside::{MemClock, MemKeeper, MemSink};
 use http_front::Users;
 use rev_trees::Trees;

@@ -1,63 +1,182 @@
-ghost use Rattle.std.specs.Prelude.{◌≡◌, ◌≤◌, ◌+◌, ℕ, [], Some, IfOk, length};
-ghost use Rattle.std.specs.Option.{option_map};
-ghost use Rattle.node_table.specs.Ways.{names_in};
-ghost use Rattle.tree_edits.specs.Edits.{held};
-ghost use Rattle.node_table.specs.Steps.{IsSource};
-ghost use Rattle.tree_edits.specs.AreEdits.{AreEdits};
-ghost use Rattle.tree_edits.specs.Applied.{Applies};
+ghost use Rattle.std.specs.Prelude.{◌≡◌, ◌<◌, [], true, Some, IfOk, IsTrue, is_some, length};
+ghost use Rattle.std.specs.FinMap.{is_sorted};
+ghost use Rattle.std.specs.Ordering.{nat_cmp};
+ghost use Rattle.std.specs.Cmp.Lexicographic.{slice_cmp};
+ghost use Rattle.dsv_base.specs.Paths.{components, root_text, is_path};
+ghost use Rattle.node_table.specs.Ways.{are_names, names_in};
+ghost use Rattle.node_table.specs.Tables.{cell_at};
+ghost use Rattle.tree_edits.specs.Edits.{touched_at, or_touched, held_in, held};
+ghost use Rattle.tree_edits.specs.Rests.{IsRest};
+ghost use Rattle.tree_edits.specs.Reading.{CanRead, CanReadEdits, IsUnder};
+ghost use Rattle.tree_edits.specs.Hanging.{Hangs, hung_in, hung_at};
 
+use crate::copies::copy_line;
+use crate::held::Held;
+use crate::place::Place;
+use crate::store::Store;
+use crate::touch::Touch;
 use dsv_base::{NoMemory, Path, Rev};
-use rev_nodes::{Cell, Change, Kind, NodeId, Unfit};
+use node_table::{below_root, cell_of};
+use rev_nodes::{Cell, NodeId, Unfit};
 use std::alloc::Global;
 use std::marker::Model;
 
-/// A stand-in.
-#[derive(Debug, Drop)]
+/// Edits over the tree of a root of a table, which itself stays as it is: at each path that a change
+/// touched, what stands there now. Contracts see the root and the touched paths in byte order.
+#[derive(Drop)]
 pub struct Edits {
     root: NodeId,
+    touched: Store,
 }
 
 impl Model for Edits {
-    ghost use Rattle.std.specs.Prelude.{[]};
     ghost use Rattle.tree_edits.specs.Edits.{EditedTree};
 
     ghost Value = { EditedTree };
 
-    ghost view = { λ e. record { root = e.root; touched = [] } };
+    ghost view = { λ e. record { root = e.root; touched = e.touched } };
+}
+
+/// What the table has at a root.
+fn root_place(cells: &[Cell], root: NodeId) -> Result<Place<'_>, NoMemory>
+    requires { root < length cells.now }
+    ensures { IfOk result (λ place. place ≡ held_in cells.now (cell_at cells.now root).line root) }
+{
+    let cell = cell_of(cells, root);
+    let line = copy_line(&cell.line)?;
+    Ok(Place::of(&cell.node, line, Some(root)))
+}
+
+/// What stands at a root.
+fn root_held<'a>(
+    store: &'a Store,
+    cells: &'a [Cell],
+    root: NodeId,
+) -> Result<Option<Place<'a>>, NoMemory>
+    requires { root < length cells.now }
+    ensures { IfOk result (λ place. place ≡ or_touched (touched_at store.now root_text)
+        (Some (held_in cells.now (cell_at cells.now root).line root))) }
+{
+    match store.get(b"/") {
+        None => Ok(Some(root_place(cells, root)?)),
+        Some(None) => Ok(None),
+        Some(Some(held)) => {
+            let line = copy_line(&held.line)?;
+            Ok(Some(Place::of(&held.node, line, held.under)))
+        }
+    }
+}
+
+/// Puts what stands at the end of a way from the root down.
+fn hang_root(
+    store: &mut Store,
+    alloc: Global,
+    cells: &[Cell],
+    root: NodeId,
+    text: &[u8],
+    rest: &[u8],
+    leaf: Option<Held>,
+    rev: Rev,
+) -> Result<(), Unfit>
+    requires root { root < length cells.now }
+    requires sorted { is_sorted (slice_cmp nat_cmp) store.old ≡ true }
+    requires can { CanRead cells.now store.old }
+    requires rest { IsRest text.now root_text rest.now }
+    requires names { are_names (components rest.now) ≡ true }
+    ensures { Hangs (hung_in rev cells.now leaf store.old root_text (or_touched (touched_at store.old root_text)
+        (Some (held_in cells.now (cell_at cells.now root).line root))) (components rest.now)) store.old store.new result }
+{
+    let place = root_place(cells, root)?;
+    let before = match store.touch(alloc, b"/", Some(place), rev) {
+        Ok(before) => before,
+        Err(why) => return Err(why),
+    };
+    match store.hang_below(alloc, cells, text, b"/", rest, leaf, rev) {
+        Ok(()) => Ok(()),
+        Err(why) => {
+            store.untouch(b"/", before);
+            Err(why)
+        }
+    }
 }
 
 impl Edits {
     /// No edits, over the tree of a root of the table.
-    pub fn on(_alloc: Global, root: NodeId) -> Edits
+    pub fn on(alloc: Global, root: NodeId) -> Edits
         ensures { result ≡ record { root = root; touched = [] } }
     {
-        Edits { root }
+        Edits {
+            root,
+            touched: Store::new(alloc),
+        }
     }
 
-    /// A stand-in.
-    pub fn apply(
+    /// The root of the table's tree that they are over.
+    pub fn root(&self) -> NodeId
+        ensures { result ≡ self.now.root }
+    {
+        self.root
+    }
+
+    /// The touched paths in byte order, with what stands there now. Its one error is want of memory.
+    pub fn touches(&self, alloc: Global) -> Result<Vec<Touch<'_>>, NoMemory>
+        ensures { IfOk result (λ all. all.items ≡ self.now.touched) }
+    {
+        self.touched.touches(alloc)
+    }
+
+    /// What stands at a path, if anything does. Its one error is want of memory.
+    pub fn look<'a>(&'a self, cells: &'a [Cell], path: &Path) -> Result<Option<Place<'a>>, NoMemory>
+        requires { CanReadEdits cells.now self.now }
+        ensures place { IfOk result (λ place. place ≡ held cells.now self.now (names_in path.now)) }
+        ensures path { IsTrue (is_path path.now) }
+    {
+        let text = path.text();
+        let Some(place) = root_held(&self.touched, cells, self.root)? else {
+            return Ok(None);
+        };
+        match below_root(text) {
+            None => Ok(Some(place)),
+            Some(rest) => self.touched.look_below(cells, text, b"/", &place, rest),
+        }
+    }
+
+    /// Whether an edit touched a path.
+    pub fn has(&self, path: &Path) -> bool
+        ensures { result ≡ is_some (touched_at self.now.touched path.now) }
+    {
+        self.touched.has(path.text())
+    }
+
+    /// Puts what stands at a path, and marks the directories above it. Where one of them is none, or
+    /// memory is wanting, nothing is changed.
+    pub(crate) fn hang(
         &mut self,
-        _alloc: Global,
+        alloc: Global,
         cells: &[Cell],
-        from: Option<NodeId>,
-        change: &Change,
+        path: &Path,
+        leaf: Option<Held>,
         rev: Rev,
     ) -> Result<(), Unfit>
-        requires are { AreEdits rev cells.now self.old }
-        requires from { (id : ℕ) → from ≡ Some id → IsSource rev cells.now id }
-        ensures are { AreEdits rev cells.now self.new }
-        ensures says { Applies rev change.now cells.now self.old self.new from result }
-        ensures few { length self.new.touched ≤ length self.old.touched + 65 }
+        requires can { CanReadEdits cells.now self.old }
+        requires sorted { is_sorted (slice_cmp nat_cmp) self.old.touched ≡ true }
+        ensures says { Hangs (hung_at rev cells.now leaf self.old (names_in path.now)) self.old.touched self.new.touched result }
+        ensures root { self.new.root ≡ self.old.root }
+        ensures path { IsTrue (is_path path.now) }
     {
-        let _root = self.root;
-        Err(Unfit::NoMemory)
-    }
-
-    /// A stand-in.
-    pub fn kind_at(&self, _cells: &[Cell], _path: &Path) -> Result<Option<Kind>, NoMemory>
-        ensures { IfOk result (λ kind. kind ≡ option_map (λ here. here.node.kind) (held _cells.now self.now (names_in _path.now))) }
-    {
-        let _root = self.root;
-        Err(NoMemory)
+        let text = path.text();
+        match below_root(text) {
+            None => self.touched.put(alloc, b"/", leaf),
+            Some(rest) => hang_root(
+                &mut self.touched,
+                alloc,
+                cells,
+                self.root,
+                text,
+                rest,
+                leaf,
+                rev,
+            ),
+        }
     }
 }

@@ -2,6 +2,7 @@
 #![tactic(auto)]
 
 mod copies;
+mod edits;
 mod hanging;
 mod held;
 mod looking;
@@ -12,7 +13,7 @@ mod store;
 mod touch;
 
 pub use copies::{copy_line, copy_node};
+pub use edits::Edits;
 pub use held::Held;
 pub use place::Place;
-pub use store::Store;
 pub use touch::Touch;

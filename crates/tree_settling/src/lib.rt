@@ -2,11 +2,10 @@
 #![tactic(auto)]
 
 mod adding;
-mod copies;
 mod heights;
 mod listing;
 mod made;
 mod merging;
 mod settling;
 
-pub use settling::{settle, settle_touches};
+pub use settling::settle;

@@ -1,34 +1,33 @@
 ghost use Rattle.std.specs.Prelude.{◌≡◌, IfOk, length, reverse};
 ghost use Rattle.node_table.specs.Tables.{IsSound};
+ghost use Rattle.tree_edits.specs.AreEdits.{AreEdits};
 ghost use Rattle.tree_settling.specs.Listed.{AreBehind};
-ghost use Rattle.tree_settling.specs.Settled.{edits_of, Settles, AreOfEdits, IsOnTable, IsMadeOf, AreSettled, root_made};
+ghost use Rattle.tree_settling.specs.Settled.{edits_of, Settles, AreOfEdits, IsOnTable, IsMadeOf, AreSettled, IsSettled, root_made};
 
 use crate::adding::add;
 use crate::made::Made;
-use dsv_base::NoMemory;
+use dsv_base::{NoMemory, Rev};
 use rev_nodes::{Cell, NodeId};
 use std::alloc::Global;
-use tree_edits::{Store, Touch};
+use tree_edits::{Edits, Touch};
 
-/// The cells that edits over the tree of a root come to behind those of the table, and the root that
-/// shows them. Without edits there are none, and the root is the old one. Its one error is want of
-/// memory.
+/// The cells that edits of a revision come to behind those of the table, and the root that shows
+/// them. Without edits there are none, and the root is the old one. Its one error is want of memory.
 pub fn settle(
     alloc: Global,
     cells: &[Cell],
-    root: NodeId,
-    touched: &Store,
+    edits: &Edits,
+    rev: Rev,
 ) -> Result<(Vec<Cell>, NodeId), NoMemory>
-    requires sound { IsSound cells.now }
-    requires touched { AreOfEdits cells.now touched.now }
-    ensures { IfOk result (λ all. Settles cells.now (edits_of root touched.now) all.0.items all.1) }
+    requires { AreEdits rev cells.now edits.now }
+    ensures { IfOk result (λ all. IsSettled rev cells.now edits.now all.0.items all.1) }
 {
-    let touches = touched.touches(alloc)?;
-    settle_touches(alloc, cells, root, touches.as_slice())
+    let touches = edits.touches(alloc)?;
+    settle_touches(alloc, cells, edits.root(), touches.as_slice())
 }
 
-/// The same of touched paths that stand in byte order.
-pub fn settle_touches(
+/// The same of a root and the paths that edits over its tree touched.
+fn settle_touches(
     alloc: Global,
     cells: &[Cell],
     root: NodeId,
