@@ -93,11 +93,13 @@ over_does r cells old new are change path one h h2 held_is o (Ok x) hung root fr
   few = few_done r cells old new are path one (Some h2) root hung;
   says = λ trees tree sources is has.
       let there : at path tree ≡ Some (shown_node h) = found_is r cells old new are path one (Some h2) root hung tree is ∙ ap (option_map shown_node) held_is in
-      let fits = o.fits trees tree there in
-      (fits, record {
-        shows = subst (λ t. (ns : List Name) → are_names ns ≡ true → at (path_at root_text ns) t ≡ shown cells new ns) (sym (o.applied trees tree there)) (shows_over r cells old new are path one (Some h2) root hung h h2 held_is refl o.line o.under tree is o.node o.node_is);
-        formed = formed_change trees tree r is.formed sources.sorted sources.formed change (ap is_path o.at_path ∙ one) fits;
-      });
+      let fits = o.fits trees tree there in (
+        fits,
+        record {
+          shows = subst (λ t. (ns : List Name) → are_names ns ≡ true → at (path_at root_text ns) t ≡ shown cells new ns) (sym (o.applied trees tree there)) (shows_over r cells old new are path one (Some h2) root hung h h2 held_is refl o.line o.under tree is o.node o.node_is);
+          formed = formed_change trees tree r is.formed sources.sorted sources.formed change (ap is_path o.at_path ∙ one) fits;
+        },
+      );
 }
 over_does r cells old new are change path one h h2 held_is o (Err why) hung root from = (same_edits old new hung.0 root, by (is_want why) hung.1)
   where
@@ -124,11 +126,13 @@ add_does r cells old new are change path one x held_is a (Ok y) hung root from =
   few = few_done r cells old new are path one (Some x) root hung;
   says = λ trees tree sources is has.
       let gone : at path tree ≡ None = found_is r cells old new are path one (Some x) root hung tree is ∙ ap (option_map shown_node) held_is in
-      let fits : unfit change trees tree ≡ None = a.free trees tree true gone (parent_some r cells are.sound (Some x) old path one tree is new.touched gone hung) in
-      (fits, record {
-        shows = subst (λ t. (ns : List Name) → are_names ns ≡ true → at (path_at root_text ns) t ≡ shown cells new ns) (sym (a.applied trees tree gone)) (shows_fresh r cells old new are path one (Some x) root hung x held_is refl a.empty tree is a.node a.node_is);
-        formed = formed_change trees tree r is.formed sources.sorted sources.formed change (ap is_path a.at_path ∙ one) fits;
-      });
+      let fits : unfit change trees tree ≡ None = a.free trees tree true gone (parent_some r cells are.sound (Some x) old path one tree is new.touched gone hung) in (
+        fits,
+        record {
+          shows = subst (λ t. (ns : List Name) → are_names ns ≡ true → at (path_at root_text ns) t ≡ shown cells new ns) (sym (a.applied trees tree gone)) (shows_fresh r cells old new are path one (Some x) root hung x held_is refl a.empty tree is a.node a.node_is);
+          formed = formed_change trees tree r is.formed sources.sorted sources.formed change (ap is_path a.at_path ∙ one) fits;
+        },
+      );
 }
 add_does r cells old new are change path one x held_is a (Err why) hung root from = (same_edits old new hung.0 root, by (is_want why) hung.1)
   where

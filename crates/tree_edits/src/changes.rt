@@ -13,9 +13,10 @@ use std::alloc::Global;
 /// What begins at a place in this revision, by no copy, without properties and with nothing in it.
 fn new_held(alloc: Global, kind: Kind, text: Bytes, rev: Rev) -> Held
     ensures { result ≡ record {
-        node = record { kind = kind; props = []; text = text; created = rev };
-        line = record { since = rev; source = None };
-        under = None } }
+      node = record { kind = kind; props = []; text = text; created = rev };
+      line = record { since = rev; source = None };
+      under = None;
+    } }
 {
     Held {
         node: Node {
@@ -117,7 +118,7 @@ impl Edits {
         ensures { (from : Option ℕ) → Does rev (told.Mkdir path.now) cells.now self.old self.new from result }
     {
         match self.look(cells, path)? {
-            Some(_) => Err(Unfit::Exists),
+            Some(_place) => Err(Unfit::Exists),
             None => {
                 let held = new_held(alloc, Kind::Dir, Bytes::from_vec(Vec::new(alloc)), rev);
                 self.hang(alloc, cells, path, Some(held), rev)
