@@ -1,6 +1,6 @@
 -- What the edits show after some of the changes of a commit.
-use Rattle.std.proofs.Common.{◌≡◌, ℕ, zero, suc, ◌+◌, ◌-◌, ◌*◌, ◌<◌, ◌≤◌, Bool, true, false, T, List, [], ◌∷◌, Option, None, Some, Result, Ok, Err, length, get_or, drop, refl, sym, ap, subst, ◌∙◌, inl, inr, arith}
-use Rattle.std.specs.Prelude.{IsTrue, nat_lt, if◌then◌else◌}
+use Rattle.std.proofs.Common.{◌≡◌, ℕ, ◌+◌, ◌-◌, ◌*◌, ◌<◌, ◌≤◌, Bool, true, false, List, [], ◌∷◌, Option, None, Some, Result, Ok, Err, length, get_or, drop, refl, sym, ap, subst, ◌∙◌, inl, inr, arith}
+use Rattle.std.specs.Prelude.{nat_lt, if◌then◌else◌}
 use Rattle.std.proofs.lemmas.Bool.{cases_lt}
 use Rattle.std.proofs.lemmas.Bool.Decides.{nat_tests}
 use Rattle.std.proofs.lemmas.List.{at_drop_more}
@@ -17,7 +17,6 @@ use Rattle.std.specs.Option.{option_map_or}
 use Rattle.dsv_base.specs.declared.prop.Prop.{Prop}
 use Rattle.rev_nodes.proofs.Forming.{past_end}
 use Rattle.rev_nodes.proofs.Marks.{sorted-marked, sorted-placed, sorted-without, one_done, all_done}
-use Rattle.node_table.specs.Tables.{cell_at, IsSound}
 use Rattle.node_table.specs.Shown.{IsShown}
 use Rattle.node_table.specs.Steps.{AreSources, IsSource, IsFrom, HasSource}
 use Rattle.tree_edits.specs.Edits.{EditedTree, AreShown}
@@ -28,7 +27,7 @@ use Rattle.rev_trees.specs.declared.push_fault.PushFault.{PushFault}
 use Rattle.rev_trees.specs.declared.push_fault.PushFault.TheVariants as faults
 use Rattle.rev_trees.specs.declared.revision.KeptRevision.{KeptRevision}
 use Rattle.rev_trees.specs.declared.next.NextRevision.{NextRevision}
-use Rattle.rev_trees.specs.Kept.{youngest, made_of, trees_in, kept_at, root_in, source_in, IsKept, AreKept}
+use Rattle.rev_trees.specs.Kept.{youngest, made_of, trees_in, kept_at, source_in, IsKept, AreKept}
 use Rattle.rev_trees.specs.Made.{fault_of, AreDone, AppliesAll, IsMade, Makes}
 use Rattle.rev_trees.proofs.Replay.{trees-length}
 

@@ -1,6 +1,6 @@
 -- What holds of all trees, as callers see them.
-use Rattle.std.proofs.Common.{◌≡◌, ℕ, zero, suc, ◌<◌, ◌≤◌, Bool, true, false, T, List, [], ◌∷◌, Option, None, Some, length, map, get_or, refl, sym, ap, subst, ◌∙◌, inl, inr, arith}
-use Rattle.std.specs.Prelude.{IsTrue, is_some}
+use Rattle.std.proofs.Common.{◌≡◌, ℕ, ◌<◌, ◌≤◌, true, T, List, [], Option, None, Some, length, get_or, refl, sym, ap, subst, ◌∙◌, inl, inr}
+use Rattle.std.specs.Prelude.{IsTrue}
 use Rattle.std.specs.Option.{option_map}
 use Rattle.std.specs.List.{All}
 use Rattle.std.specs.FinMap.{find, is_sorted}
@@ -9,14 +9,12 @@ use Rattle.std.specs.Cmp.Lexicographic.{slice_cmp, nat_list_cmp_total}
 use Rattle.std.specs.Ordering.{nat_cmp}
 use Rattle.std.proofs.lemmas.Bool.{cases_lt}
 use Rattle.std.proofs.lemmas.List.Elements.{All-nil, All-from_get_or}
-use Rattle.dsv_base.specs.Paths.{is_path, root_text}
+use Rattle.dsv_base.specs.Paths.{is_path}
 use Rattle.rev_nodes.specs.declared.cell.Cell.{Cell}
-use Rattle.rev_nodes.specs.declared.entry.Entry.{Entry}
-use Rattle.rev_nodes.specs.declared.line.Line.{Line}
 use Rattle.rev_nodes.specs.declared.node.Node.{Node}
 use Rattle.rev_nodes.specs.Trees.{TreeNode, Tree, at, tree_at, is_dir_kind}
-use Rattle.rev_nodes.specs.Forests.{Numbered, Forest, tree_of, revision_at, places_at, place_at, id_at, line_at, node_at, IsId, IsNodeOf}
-use Rattle.rev_nodes.specs.Entries.{entries_in, AreEntriesOf, HasNoneInFile, IsSoundPlace, AreAlike, IsSound}
+use Rattle.rev_nodes.specs.Forests.{Numbered, Forest, tree_of, places_at, place_at, id_at, line_at, IsId, IsNodeOf}
+use Rattle.rev_nodes.specs.Entries.{entries_in, AreEntriesOf, HasNoneInFile, IsSoundPlace, IsSound}
 use Rattle.rev_nodes.specs.Formed.{IsFormed, AreFormed}
 use Rattle.rev_nodes.specs.Commits.{IsCommitOf, AreCommits}
 use Rattle.rev_nodes.specs.SoundNodes.{HasSoundNode, AreSoundNodes}
@@ -31,7 +29,7 @@ use Rattle.node_table.proofs.Growing.{reach_within}
 use Rattle.node_table.proofs.LineLaws.{come_from_paths, line_is}
 use Rattle.node_table.proofs.Numbers.{tree-numbered, sorted-numbered, IsLed, numbered_at, entries_at}
 use Rattle.rev_trees.specs.declared.revision.KeptRevision.{KeptRevision}
-use Rattle.rev_trees.specs.Kept.{trees_in, forest_of, kept_at, IsKept, AreKept}
+use Rattle.rev_trees.specs.Kept.{trees_in, forest_of, kept_at, AreKept}
 use Rattle.rev_trees.proofs.PlacesFound.{number_is, node_is}
 use Rattle.rev_trees.proofs.Viewed.{length-of, nodes-of, commit-of, places-of, places-past}
 

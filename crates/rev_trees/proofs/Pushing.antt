@@ -1,6 +1,6 @@
 -- Pushing a revision, as the table and the kept revisions do it.
-use Rattle.std.proofs.Common.{◌≡◌, ℕ, zero, suc, ◌+◌, ◌*◌, ◌-◌, ◌≤◌, ◌<◌, true, List, [], ◌∷◌, ◌++◌, Result, Ok, Err, length, map, Some, refl, sym, ap, subst, ◌∙◌, inl, inr, arith, length-append}
-use Rattle.std.specs.List.{list_all, All}
+use Rattle.std.proofs.Common.{◌≡◌, ℕ, ◌*◌, ◌-◌, ◌≤◌, ◌<◌, List, [], ◌∷◌, ◌++◌, Ok, Err, length, map, Some, sym, ap, subst, ◌∙◌, inl, inr, arith, length-append}
+use Rattle.std.specs.List.{All}
 use Rattle.std.proofs.lemmas.Bool.{cases_lt}
 use Rattle.std.proofs.lemmas.List.Elements.{All-nil}
 use Rattle.rev_nodes.specs.declared.cell.Cell.{Cell}
@@ -9,14 +9,14 @@ use Rattle.rev_nodes.specs.declared.commit.Commit.{Commit}
 use Rattle.rev_nodes.specs.Trees.{Tree, tree_at}
 use Rattle.rev_nodes.specs.Changes.{apply_from}
 use Rattle.rev_nodes.specs.ChangedPaths.{changed_paths}
-use Rattle.rev_nodes.specs.Commits.{comes_from_below, IsSoundCommit, IsCommitOf}
-use Rattle.rev_nodes.specs.Forests.{ForestRevision, Forest, tree_of, without_numbers}
+use Rattle.rev_nodes.specs.Commits.{IsSoundCommit, IsCommitOf}
+use Rattle.rev_nodes.specs.Forests.{ForestRevision, Forest, without_numbers}
 use Rattle.rev_nodes.specs.Pushes.{tree_after}
 use Rattle.rev_nodes.specs.SoundNodes.{HasSoundNode}
 use Rattle.rev_nodes.proofs.Forming.{past_end}
 use Rattle.rev_nodes.proofs.NodesSound.{later_nodes, sound_changes, sources_below}
 use Rattle.node_table.specs.Ways.{Name}
-use Rattle.node_table.specs.Tables.{Spot, cell_at, seen, IsSound}
+use Rattle.node_table.specs.Tables.{Spot, seen, IsSound}
 use Rattle.node_table.specs.Rebuilt.{root_spot}
 use Rattle.node_table.specs.Shown.{IsShown}
 use Rattle.node_table.proofs.Growing.{cell_at-kept, seen-kept}
@@ -26,7 +26,7 @@ use Rattle.rev_trees.specs.declared.push_fault.PushFault.TheVariants as faults
 use Rattle.rev_trees.specs.declared.revision.KeptRevision.{KeptRevision}
 use Rattle.rev_trees.specs.declared.next.NextRevision.{NextRevision}
 use Rattle.rev_trees.specs.Readies.{ReadyRevision, IsReadyOn, IsNext, Prepares, Pushes, revisions_of}
-use Rattle.rev_trees.specs.Kept.{tree_or_none, youngest, made_of, after, trees_in, revision_in, revisions_in, forest_of, kept_at, IsKept, AreKept, tree_made, ready_of, IsReady}
+use Rattle.rev_trees.specs.Kept.{tree_or_none, youngest, after, trees_in, revision_in, revisions_in, forest_of, kept_at, IsKept, AreKept, tree_made, ready_of, IsReady}
 use Rattle.rev_trees.specs.Made.{IsMade, Makes}
 use Rattle.rev_trees.proofs.Replay.{trees-push, trees-length, length-push, tree_at-push, tree_at-last, kept_at-push, kept_at-last}
 use Rattle.rev_trees.proofs.Viewed.{in-push, in-kept, length-of, nodes-of, room-of, node_room-of, youngest-is, after-is}

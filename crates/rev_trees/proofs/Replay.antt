@@ -1,5 +1,5 @@
 -- The trees of revisions, as their commits make them.
-use Rattle.std.proofs.Common.{◌≡◌, ℕ, zero, suc, ◌+◌, ◌<◌, ◌≤◌, List, [], ◌∷◌, ◌++◌, length, map, refl, sym, ap, ◌∙◌, arith, length-append}
+use Rattle.std.proofs.Common.{◌≡◌, ℕ, zero, suc, ◌+◌, ◌<◌, ◌≤◌, List, [], ◌∷◌, ◌++◌, length, refl, ap, ◌∙◌, arith, length-append}
 use Rattle.rev_nodes.specs.declared.commit.Commit.{Commit}
 use Rattle.rev_nodes.specs.Trees.{Tree, first_tree, tree_at}
 use Rattle.rev_trees.specs.declared.revision.KeptRevision.{KeptRevision}

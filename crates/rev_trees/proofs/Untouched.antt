@@ -1,11 +1,11 @@
 -- Edits that touch nothing show what their root does.
-use Rattle.std.proofs.Common.{◌≡◌, ℕ, ◌<◌, ◌≤◌, true, List, [], ◌∷◌, Option, None, Some, length, refl, sym, ap, subst, ◌∙◌}
+use Rattle.std.proofs.Common.{◌≡◌, ℕ, List, [], ◌∷◌, Option, None, Some, refl, sym, ap, subst, ◌∙◌}
 use Rattle.std.specs.Option.{option_map}
 use Rattle.dsv_base.specs.Paths.{root_text, join_text}
 use Rattle.rev_nodes.specs.declared.cell.Cell.{Cell}
-use Rattle.rev_nodes.specs.Trees.{TreeNode, Tree, at}
-use Rattle.node_table.specs.Ways.{Name, are_names, path_at}
-use Rattle.node_table.specs.Tables.{Spot, cell_at, child_in, spot_in, walk, node_at, seen, below_line, IsSound}
+use Rattle.rev_nodes.specs.Trees.{Tree}
+use Rattle.node_table.specs.Ways.{Name}
+use Rattle.node_table.specs.Tables.{Spot, cell_at, child_in, spot_in, walk, node_at, seen, below_line}
 use Rattle.node_table.specs.Rebuilt.{root_spot}
 use Rattle.node_table.specs.Shown.{IsShown}
 use Rattle.node_table.proofs.Growing.{walk_none}

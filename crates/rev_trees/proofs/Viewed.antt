@@ -1,20 +1,16 @@
 -- The revisions as callers see them, one by one.
-use Rattle.std.proofs.Common.{◌≡◌, ℕ, zero, suc, ◌+◌, ◌-◌, ◌<◌, ◌≤◌, List, [], ◌∷◌, ◌++◌, Result, length, map, get_or, refl, sym, ap, subst, ◌∙◌, inl, inr, arith}
-use Rattle.std.proofs.lemmas.Bool.{cases_lt}
+use Rattle.std.proofs.Common.{◌≡◌, ℕ, zero, suc, ◌-◌, ◌<◌, ◌≤◌, List, [], ◌∷◌, ◌++◌, length, map, get_or, refl, sym, ap, ◌∙◌, arith}
 use Rattle.rev_nodes.specs.declared.cell.Cell.{Cell}
-use Rattle.rev_nodes.specs.declared.changed.Changed.{Changed}
 use Rattle.rev_nodes.specs.declared.commit.Commit.{Commit}
-use Rattle.rev_nodes.specs.declared.unfit.Unfit.{Unfit}
 use Rattle.rev_nodes.specs.Trees.{Tree, Revision, tree_at}
 use Rattle.rev_nodes.specs.Changes.{apply_from}
-use Rattle.rev_nodes.specs.Forests.{Numbered, ForestRevision, Forest, no_revision, tree_of, without_numbers, revision_at, places_at}
+use Rattle.rev_nodes.specs.Forests.{ForestRevision, Forest, no_revision, without_numbers, revision_at, places_at}
 use Rattle.rev_nodes.specs.Pushes.{trees_of, youngest_tree, tree_after}
-use Rattle.rev_nodes.proofs.Forming.{past_end}
 use Rattle.node_table.specs.Tables.{IsSound}
 use Rattle.node_table.specs.Numbers.{numbered}
 use Rattle.node_table.proofs.Numbers.{tree-numbered}
 use Rattle.rev_trees.specs.declared.revision.KeptRevision.{KeptRevision}
-use Rattle.rev_trees.specs.Kept.{youngest, made_of, trees_in, revision_in, revisions_in, forest_of, no_kept_revision, kept_at}
+use Rattle.rev_trees.specs.Kept.{youngest, made_of, trees_in, revision_in, revisions_in, forest_of, kept_at}
 use Rattle.rev_trees.proofs.PlacesFound.{numbered-kept}
 use Rattle.rev_trees.proofs.Replay.{trees-length}
 

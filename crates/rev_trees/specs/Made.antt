@@ -1,12 +1,10 @@
 -- The next revision, as it is made from those that are kept.
-use Rattle.std.specs.Prelude.{ℕ, ◌≡◌, ◌+◌, ◌*◌, ◌≤◌, ◌<◌, ◌++◌, ⊤, List, Result, Ok, Err, length, IsTrue}
+use Rattle.std.specs.Prelude.{ℕ, ◌≡◌, ◌*◌, ◌≤◌, ◌<◌, ◌++◌, ⊤, List, Result, Ok, Err, length, IsTrue}
 use Rattle.rev_nodes.specs.declared.cell.Cell.{Cell}
-use Rattle.rev_nodes.specs.declared.change.Change.{Change}
 use Rattle.rev_nodes.specs.declared.commit.Commit.{Commit}
 use Rattle.rev_nodes.specs.declared.unfit.Unfit.{Unfit}
 use Rattle.rev_nodes.specs.declared.unfit.Unfit.TheVariants.{NoNode, IsRoot, Exists, NoParent, TooLong, NoMemory}
 use Rattle.rev_nodes.specs.Trees.{Tree}
-use Rattle.rev_nodes.specs.Changes.{apply_from}
 use Rattle.rev_nodes.specs.ChangedPaths.{changed_paths}
 use Rattle.rev_nodes.specs.Fitting.{in_order}
 use Rattle.node_table.specs.Tables.{cell_at, IsSound}
@@ -14,7 +12,6 @@ use Rattle.node_table.specs.Shown.{IsShown}
 use Rattle.tree_edits.specs.Edits.{EditedTree, AreShown}
 use Rattle.rev_trees.specs.declared.push_fault.PushFault.{PushFault}
 use Rattle.rev_trees.specs.declared.push_fault.PushFault.TheVariants as faults
-use Rattle.rev_trees.specs.declared.revision.KeptRevision.{KeptRevision}
 use Rattle.rev_trees.specs.declared.next.NextRevision.{NextRevision}
 use Rattle.rev_trees.specs.Kept.{youngest, made_of}
 

@@ -1,8 +1,7 @@
-use Rattle.std.proofs.Common.{◌≡◌, ◌≤◌, ◌-◌, ℕ, List, length, refl, sym, ap, subst, ◌∙◌, arith}
+use Rattle.std.proofs.Common.{◌-◌, length, refl, sym, ap, subst, ◌∙◌, arith}
 use Rattle.rev_nodes.specs.Changes.{apply_from}
-use Rattle.tree_edits.specs.Edits.{EditedTree}
 use Rattle.node_table.specs.Steps.{IsSource}
-use Rattle.rev_trees.specs.Kept.{trees_in, youngest, source_in}
+use Rattle.rev_trees.specs.Kept.{trees_in, youngest}
 use Rattle.rev_trees.proofs.Applied.{are_sources, is_source, goes_on, ends, all_applied}
 use Rattle.rev_trees.proofs.next.apply_all.Goals as goal
 

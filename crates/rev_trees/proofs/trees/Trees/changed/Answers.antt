@@ -1,4 +1,4 @@
-use Rattle.std.proofs.Common.{◌<◌, length, sym, subst, ◌∙◌, ap}
+use Rattle.std.proofs.Common.{◌<◌, sym, subst, ◌∙◌, ap}
 use Rattle.rev_trees.specs.declared.revision.KeptRevision.{KeptRevision}
 use Rattle.rev_trees.proofs.Viewed.{changed-of, length-of}
 use Rattle.rev_trees.proofs.trees.Trees.changed.Goals as goal

@@ -1,4 +1,4 @@
-use Rattle.std.proofs.Common.{◌<◌, length, sym, subst, ◌∙◌, ap}
+use Rattle.std.proofs.Common.{◌<◌, sym, subst, ◌∙◌, ap}
 use Rattle.rev_nodes.specs.declared.commit.Commit.{Commit}
 use Rattle.rev_nodes.specs.Commits.{IsCommitOf}
 use Rattle.rev_trees.specs.declared.revision.KeptRevision.{KeptRevision}

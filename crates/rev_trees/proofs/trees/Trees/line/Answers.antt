@@ -1,4 +1,4 @@
-use Rattle.std.proofs.Common.{◌≡◌, ◌<◌, Option, IfOk, length, sym, subst, ◌∙◌, ap}
+use Rattle.std.proofs.Common.{◌≡◌, ◌<◌, Option, IfOk, subst}
 use Rattle.rev_nodes.specs.declared.line.Line.{Line}
 use Rattle.rev_trees.proofs.Viewed.{length-of}
 use Rattle.rev_trees.proofs.Learned.{paths-of, line-of}

@@ -1,6 +1,4 @@
-use Rattle.std.proofs.Common.{◌≡◌, ◌<◌, Some, length, sym, subst, ◌∙◌, ap}
-use Rattle.node_table.specs.Ways.{names_in}
-use Rattle.node_table.specs.Tables.{reach}
+use Rattle.std.proofs.Common.{◌<◌, subst, ◌∙◌}
 use Rattle.rev_trees.proofs.Viewed.{length-of}
 use Rattle.rev_trees.proofs.Learned.{look-of}
 use Rattle.rev_trees.proofs.trees.Trees.look.Goals as goal

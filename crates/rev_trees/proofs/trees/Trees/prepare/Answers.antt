@@ -1,9 +1,9 @@
-use Rattle.std.proofs.Common.{◌≡◌, ◌≤◌, ◌-◌, List, Err, length, refl, sym, ap, subst, ◌∙◌, vec_len, vec_capacity, arith}
+use Rattle.std.proofs.Common.{◌-◌, List, Err, length, refl, sym, ap, subst, ◌∙◌, vec_len, vec_capacity, arith}
 use Rattle.std.proofs.lemmas.Result.{err_from_is_err_and}
 use Rattle.rev_nodes.specs.declared.cell.Cell.{Cell}
 use Rattle.rev_nodes.specs.Forests.{Forest}
 use Rattle.rev_trees.specs.declared.revision.KeptRevision.{KeptRevision}
-use Rattle.rev_trees.specs.Kept.{trees_in, revisions_in, forest_of, AreKept, IsReady}
+use Rattle.rev_trees.specs.Kept.{trees_in, revisions_in, forest_of, AreKept}
 use Rattle.rev_trees.specs.Made.{IsMade, Makes}
 use Rattle.rev_trees.proofs.Viewed.{length-of}
 use Rattle.rev_trees.proofs.Pushing.{made_ready, is_next, not_next, ready_on}

@@ -1,6 +1,6 @@
-use Rattle.std.proofs.Common.{◌≡◌, length, sym, ap, subst, ◌∙◌}
+use Rattle.std.proofs.Common.{sym, ◌∙◌}
 use Rattle.rev_trees.proofs.Viewed.{length-of}
-use Rattle.rev_trees.proofs.Pushing.{number_on, sound_on, room_on, node_room_on, kept_on, pushes_one}
+use Rattle.rev_trees.proofs.Pushing.{number_on, sound_on, node_room_on, kept_on, pushes_one}
 use Rattle.rev_trees.proofs.trees.Trees.push_ready.Goals as goal
 
 pub append-requires-clause-room : goal.append-requires-clause-room
