@@ -14,19 +14,6 @@ use Rattle.node_table.proofs.Growing.{reach_none}
 
 -- ---- the height over entries is the greatest of each
 
-pub higher-none : (h : Height) → higher no_height h ≡ h
-higher-none h = let a : max 0 h.names ≡ h.names = omega arith in let b : max 0 h.bytes ≡ h.bytes = omega arith in λ i. record { names = a i; bytes = b i }
-
-pub none-higher : (h : Height) → higher h no_height ≡ h
-none-higher h = let a : max h.names 0 ≡ h.names = omega arith in let b : max h.bytes 0 ≡ h.bytes = omega arith in λ i. record { names = a i; bytes = b i }
-
--- one entry more, from the front on
-pub higher-next : (e so_far rest : Height) → higher (higher e so_far) rest ≡ higher so_far (higher e rest)
-higher-next e so_far rest =
-    let a : max (max e.names so_far.names) rest.names ≡ max so_far.names (max e.names rest.names) = omega arith in
-    let b : max (max e.bytes so_far.bytes) rest.bytes ≡ max so_far.bytes (max e.bytes rest.bytes) = omega arith in
-    λ i. record { names = a i; bytes = b i }
-
 module _ (cells : List Cell) where
   abbrev pub height_at : Entry → Height
   height_at e = height_below e.name (cell_at cells e.id).height

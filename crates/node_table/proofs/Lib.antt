@@ -2,7 +2,6 @@ pub mod Ways
 pub mod EntriesFound
 pub mod Growing
 pub mod Fronts
-pub mod EntryLaws
 pub mod Marking
 pub mod PathNames
 pub mod Found

@@ -1,11 +1,8 @@
 -- A table of nodes that are linked by number.
-use Rattle.std.specs.Prelude.{ℕ, ◌≡◌, ◌<◌, ◌≤◌, nat_le, Bool, false, List, [], ◌∷◌, Option, None, Some, map, length, slice_index_or, IsTrue, not, if◌then◌else◌, filter}
+use Rattle.std.specs.Prelude.{ℕ, ◌≡◌, ◌<◌, ◌≤◌, nat_le, Bool, false, List, [], ◌∷◌, Option, None, Some, map, length, slice_index_or, IsTrue, if◌then◌else◌}
 use Rattle.std.specs.Option.{option_map, option_and_then}
-use Rattle.std.specs.Str.{bytes_eq}
 use Rattle.std.specs.FinMap.{find, is_sorted}
 use Rattle.std.specs.Ordering.{nat_cmp}
-use Rattle.std.specs.declared.cmp.Ordering.{Ordering}
-use Rattle.std.specs.declared.cmp.Ordering.TheVariants.{Less, Equal, Greater}
 use Rattle.std.specs.Cmp.Lexicographic.{slice_cmp}
 use Rattle.dsv_base.specs.Paths.{is_component, join_text}
 use Rattle.rev_nodes.specs.declared.entry.Entry.{Entry}
@@ -96,7 +93,7 @@ abbrev pub height_over : List Cell → List Entry → Height
 height_over cells [] = no_height
 height_over cells (e ∷ es) = higher (height_below e.name (cell_at cells e.id).height) (height_over cells es)
 
--- a directory's entries stand in order, and a file has none; the height is that of the longest ways through them
+-- a directory's entries stand in order, and a file has none; the height is that of the longest ways
 pub record IsCell (cells : List Cell) (id : ℕ) : Type 0 where
   pub sorted : IsTrue (are_in_order (cell_at cells id).entries)
   pub children : (n : Name) (i : ℕ) → child_in cells n id ≡ Some i → IsChild cells id n i
@@ -107,23 +104,3 @@ pub record IsCell (cells : List Cell) (id : ℕ) : Type 0 where
 -- each cell of the table is so
 abbrev pub IsSound : List Cell → Type 0
 IsSound cells = (id : ℕ) → IsCell cells id
-
--- an entry before, over or behind another
-abbrev pub entry_by : Ordering → Entry → Entry → List Entry → List Entry → List Entry
-entry_by Less e other others with_others = e ∷ other ∷ others
-entry_by Equal e other others with_others = e ∷ others
-entry_by Greater e other others with_others = other ∷ with_others
-
--- the entries with this one, in byte order of the names
-abbrev pub with_entry : Entry → List Entry → List Entry
-with_entry e [] = e ∷ []
-with_entry e (other ∷ others) = entry_by (slice_cmp nat_cmp e.name other.name) e other others (with_entry e others)
-
--- the entries without this name
-abbrev pub without_entry : Name → List Entry → List Entry
-without_entry name entries = filter (λ e. not (bytes_eq e.name name)) entries
-
--- the entries with another number at a name, or with none
-abbrev pub entries_after : Name → Option ℕ → List Entry → List Entry
-entries_after name None entries = without_entry name entries
-entries_after name (Some id) entries = with_entry (record { name = name; id = id }) entries

@@ -1,13 +1,12 @@
 ghost use Rattle.std.specs.Prelude.{◌≡◌, ◌<◌, ◌+◌, min, true, false, length};
-ghost use Rattle.std.specs.List.{All};
 ghost use Rattle.node_table.specs.Heights.{height_below, higher};
-ghost use Rattle.node_table.specs.Tables.{height_over, IsSound};
+ghost use Rattle.node_table.specs.Tables.{IsSound};
 ghost use Rattle.node_table.specs.Limits.{AllFit, HasLong};
 
 use crate::reading::cell_of;
-use rev_nodes::{Cell, Entry, Height, NodeId};
+use rev_nodes::{Cell, Height, NodeId};
 
-/// The greatest height of a way of names; a longer one counts as this.
+/// The most bytes that are told of a way.
 const MOST_BYTES: usize = 65_535;
 
 /// The bytes of a way with a name before it.
@@ -28,19 +27,6 @@ pub fn height_with(height: Height, name: &[u8], below: Height) -> Height
         names: names.max(height.names),
         bytes: bytes.max(height.bytes),
     }
-}
-
-/// The height of a directory with these entries, whose nodes are among the cells.
-pub fn height_of(cells: &[Cell], entries: &[Entry]) -> Height
-    requires { All (λ e. e.id < length cells.now) entries.now }
-    ensures { result ≡ height_over cells.now entries.now }
-{
-    let mut height = Height { names: 0, bytes: 0 };
-    'entries: for entry in entries {
-        let below = cell_of(cells, entry.id).height;
-        height = height_with(height, entry.name.get(), below);
-    }
-    height
 }
 
 /// Whether all below a number has at most so many names, and so many bytes with a slash before each.

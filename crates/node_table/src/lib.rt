@@ -11,7 +11,7 @@ mod reading;
 mod table;
 
 pub use depths::depth;
-pub use heights::{fits_below, height_of, height_with};
+pub use heights::{fits_below, height_with};
 pub use lines::line_at;
 pub use names::first_name;
 pub use places::{below_root, place_at};

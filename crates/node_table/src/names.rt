@@ -1,4 +1,4 @@
-ghost use Rattle.std.specs.Prelude.{◌≡◌, ◌<◌, ◌∷◌, ◌==◌, [], false, length, MatchOption, IfSome, IfNone, All, take, slice_index};
+ghost use Rattle.std.specs.Prelude.{◌≡◌, ◌<◌, ◌∷◌, ◌==◌, [], false, length, take, slice_index, All, IfSome, IfNone, MatchOption};
 ghost use Rattle.dsv_base.specs.Paths.{components, is_slash};
 
 /// Where the first name ends.
@@ -13,7 +13,8 @@ fn name_end(text: &[u8]) -> Option<usize>
 
 /// The first name, and what stands after it.
 pub fn first_name(text: &[u8]) -> Option<(&[u8], &[u8])>
-    ensures cut { MatchOption result (components text.now ≡ text.now ∷ []) (λ x. components text.now ≡ x.0.now ∷ components x.1.now) }
+    ensures cut { MatchOption result (components text.now ≡ text.now ∷ [])
+        (λ x. components text.now ≡ x.0.now ∷ components x.1.now) }
     ensures shorter { IfSome result (λ x. length x.1.now < length text.now) }
 {
     match name_end(text) {
