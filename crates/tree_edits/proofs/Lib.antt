@@ -8,3 +8,5 @@ pub mod Views
 pub mod StepsDown
 pub mod Kept
 pub mod Parents
+pub mod Doing
+pub mod Steps
