@@ -2,6 +2,7 @@ use crate::cut::{CutSource, Cutting};
 use crate::run_rows::{clock_of, cuttings_of, keeper_of, kept_differs, source_of};
 use anyhow::{Result, bail};
 use authz_check::Policy;
+use authz_file::Rules;
 use dav_machine::{Hub, Solo};
 use dav_serve::{ServeEnd, serve_connection};
 use dsv_outside::{MemClock, MemKeeper, MemSink};
@@ -129,17 +130,25 @@ fn trees_in(alloc: Global, book: &Book, row: &Row) -> Result<Trees> {
     Ok(trees_of(alloc, file.as_slice())?)
 }
 
-fn policy_in(alloc: Global, book: &Book, row: &Row, name: &[u8]) -> Result<Policy> {
+fn rules_in(alloc: Global, book: &Book, row: &Row) -> Result<Rules> {
     let file = row.bytes(alloc, book, "file rules")?;
-    let rules = rules_of(alloc, file.as_slice())?;
-    Ok(Policy::new(alloc, &rules, name)?)
+    Ok(rules_of(alloc, file.as_slice())?)
 }
 
 /// A hub over the row's files `script` and `rules`.
 fn hub_of(alloc: Global, book: &Book, row: &Row) -> Result<Hub<MemKeeper>> {
     let keeper = keeper_of(alloc, row)?;
-    let trees = trees_in(alloc, book, row)?;
-    let policy = policy_in(alloc, book, row, trees.name())?;
+    let rules = rules_in(alloc, book, row)?;
+    hub_over(alloc, trees_in(alloc, book, row)?, &rules, keeper)
+}
+
+fn hub_over(
+    alloc: Global,
+    trees: Trees,
+    rules: &Rules,
+    keeper: MemKeeper,
+) -> Result<Hub<MemKeeper>> {
+    let policy = Policy::new(alloc, rules, trees.name())?;
     match Hub::new(alloc, trees, policy, keeper) {
         Ok(hub) => Ok(hub),
         Err(_) => bail!("no memory"),
