@@ -74,10 +74,7 @@ impl Bytes {
         ensures { IfOk result (λ bytes. bytes.items ≡ self) }
     {
         let Bytes { held } = self;
-        match held {
-            Held::Alone(bytes) => Ok(bytes),
-            Held::Together(part) => part.into_vec(),
-        }
+        held.into_vec()
     }
 
     /// The same bytes, held together with these. Its one error is want of memory.

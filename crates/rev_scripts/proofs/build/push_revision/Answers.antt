@@ -23,7 +23,7 @@ returns-in-Err-read-clause-value c =
 
 pub returns-in_err-ready-clause-value : goal.returns-in_err-ready-clause-value
 returns-in_err-ready-clause-value c =
-    let p = err_from_is_err_and c.from_residual-in_err-ready.result c.from_residual-in_err-ready.ensures.1 in
+    let p = err_from_is_err_and c.from_residual.result c.from_residual.ensures.1 in
     let head : ℕ × List ℕ × List ℕ = (c.in-Ok.head.0, c.in-Ok.head.1, c.in-Ok.head.2) in
     let count = c.next_number-number.ensures ∙ sym (length-revisions_of c.args.trees.now) in
     rw (p.1, p.2) (unfit_next c.in-Ok.head.1 c.next_number-number.result c.args.line c.args.text.now head c.read_items-read.new.told (c.in-Ok-read.after.0, c.in-Ok-read.after.1) c.args.trees.now c.prepare_told.new.trees c.in_err-ready.field-0.0 refl count c.in-Ok.ensures.value
