@@ -10,3 +10,4 @@ pub mod Kept
 pub mod Parents
 pub mod Doing
 pub mod Steps
+pub mod Clearing

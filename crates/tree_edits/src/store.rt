@@ -3,9 +3,10 @@ ghost use Rattle.std.specs.Option.{option_copied};
 ghost use Rattle.std.specs.FinMap.{is_sorted};
 ghost use Rattle.std.specs.Ordering.{nat_cmp};
 ghost use Rattle.std.specs.Cmp.Lexicographic.{slice_cmp};
+ghost use Rattle.dsv_base.specs.Paths.{is_under};
 ghost use Rattle.tree_edits.specs.Edits.{touched_at};
 ghost use Rattle.tree_edits.specs.Edits.{Held as HeldRecord};
-ghost use Rattle.tree_edits.specs.Hanging.{with_edit, without_edit, marked_at, cleared};
+ghost use Rattle.tree_edits.specs.Hanging.{with_edit, without_edit, marked_at, is_below, cleared};
 
 use crate::held::Held;
 use dsv_base::{NoMemory, Rev};
@@ -90,4 +91,31 @@ impl Store {
     {
         self.map.remove(path);
     }
+
+    /// Takes out all paths below one.
+    pub(crate) fn clear_below(&mut self, path: &[u8])
+        ensures { self.new ≡ cleared path.now self.old }
+    {
+        self.map
+            .retain(|key, _edit| !is_below(key.as_slice(), path));
+    }
+}
+
+/// Whether a path stands below another.
+fn is_below(text: &[u8], top: &[u8]) -> bool
+    ensures { result ≡ is_below text.now top.now }
+{
+    if text == top {
+        return false;
+    }
+    is_under(text, top)
+}
+
+#[tactic(auto, unfolding(dsv_base::specs::Paths::is_under))]
+fn is_under(text: &[u8], top: &[u8]) -> bool
+    ensures { result ≡ is_under text.now top.now }
+{
+    text == top
+        || top == b"/".as_slice()
+        || (text.starts_with(top) && text.len() > top.len() && text[top.len()] == b'/')
 }
