@@ -36,7 +36,7 @@ module _ (path : List ℕ) (one : is_path path ≡ true) (other : bytes_eq path 
   unequal true h = absurd (cc)
   unequal false h = refl
 
-  longer_below : (p : List ℕ) → is_path p ≡ true → is_below p path ≡ true → length path < length p
+  pub longer_below : (p : List ℕ) → is_path p ≡ true → is_below p path ≡ true → length path < length p
   longer_below p p_one below =
       let parts = and_parts (not (bytes_eq p path)) (is_under p path) below in
       let far = behind p path p_one parts.1 (unequal (bytes_eq p path) parts.0) in

@@ -11,3 +11,5 @@ pub mod Parents
 pub mod Doing
 pub mod Steps
 pub mod Clearing
+pub mod Gone
+pub mod Deleting
