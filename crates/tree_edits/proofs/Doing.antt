@@ -65,7 +65,7 @@ off_beyond q (n ∷ ns) path k less =
     let far = longer_at (n ∷ ns) path k in
     (longer_apart q path (omega (arith, far, less)), off_beyond q ns (join_text path n) p.1 less)
 
-is_root_path : is_path root_text ≡ true
+pub is_root_path : is_path root_text ≡ true
 unfolding is_path
 is_root_path = refl
 
@@ -114,7 +114,7 @@ module _ (r : ℕ) (cells : List Cell) (old new : EditedTree) (are : AreEdits r 
       stands_by None t = refl
       stands_by (Some edit) t = (are.touched.placed root_text edit t).stands parent_root
 
-  are_new : Ends cells are.sound r leaf old.touched (path_at root_text way) (held cells old way) → AreEdits r cells new
+  pub are_new : Ends cells are.sound r leaf old.touched (path_at root_text way) (held cells old way) → AreEdits r cells new
   are_new ends = record {
     sound = are.sound;
     within = subst (λ k. k < length cells) (sym root_is) are.within;
@@ -144,7 +144,7 @@ module _ (r : ℕ) (cells : List Cell) (old new : EditedTree) (are : AreEdits r 
     are_over kind created = are_new (λ t here a p is below. subst (EditFits r cells t (path_at root_text way)) (sym leaf_is) (place_fits cells are.sound r t (path_at root_text way) h h2 a (subst (IsPlace r cells t (path_at root_text way)) (is ∙ held_is) p) line under kind created))
 
     pub shows_over : (tree : Tree) → AreShown cells old tree → (x : TreeNode) → shown_node h2 ≡ stamped r true x → Shows (marked r path (placed path x tree))
-    shows_over tree is x x_is = subst (λ p. Shows (marked r p (placed p x tree))) path_is (placed_shown r cells leaf way old new named root_is hung tree is.shows x
+    shows_over tree is x x_is = subst (λ p. Shows (marked r p (placed p x tree))) path_is (placed_shown r cells leaf way old new named root_is hung tree (λ ns k f. is.shows ns k) x
         (ap (option_map shown_node) leaf_is ∙ ap (λ (y : TreeNode). Some y) x_is)
         (λ m ms k.
         ap (λ o. option_map shown_node (held_from cells new.touched (path_at root_text way) o (m ∷ ms))) leaf_is
@@ -172,7 +172,7 @@ module _ (r : ℕ) (cells : List Cell) (old new : EditedTree) (are : AreEdits r 
     none_there tree is m ms k = at_below tree is m ms k ∙ ap (λ o. option_map shown_node (held_from cells old.touched (path_at root_text way) o (m ∷ ms))) held_is
 
     pub shows_fresh : x.under ≡ None → (tree : Tree) → AreShown cells old tree → (y : TreeNode) → shown_node x ≡ stamped r true y → Shows (marked r path (placed path y tree))
-    shows_fresh empty tree is y y_is = subst (λ p. Shows (marked r p (placed p y tree))) path_is (placed_shown r cells leaf way old new named root_is hung tree is.shows y
+    shows_fresh empty tree is y y_is = subst (λ p. Shows (marked r p (placed p y tree))) path_is (placed_shown r cells leaf way old new named root_is hung tree (λ ns k f. is.shows ns k) y
         (ap (option_map shown_node) leaf_is ∙ ap (λ (z : TreeNode). Some z) y_is)
         (λ m ms k.
         let p = and_parts (is_component m) (are_names ms) k in

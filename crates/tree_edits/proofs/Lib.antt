@@ -10,3 +10,6 @@ pub mod Kept
 pub mod Parents
 pub mod Doing
 pub mod Steps
+pub mod Clearing
+pub mod Gone
+pub mod Deleting

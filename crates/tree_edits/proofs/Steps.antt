@@ -33,7 +33,7 @@ use Rattle.tree_edits.proofs.Texts.{HasEnd, ends, parts_of, parent_at}
 use Rattle.tree_edits.proofs.Parents.{has_hung, not_hung}
 use Rattle.tree_edits.proofs.Doing.{few_done, found_is, are_over, shows_over, are_fresh, shows_fresh}
 
-same_edits : (old new : EditedTree) → new.touched ≡ old.touched → new.root ≡ old.root → new ≡ old
+pub same_edits : (old new : EditedTree) → new.touched ≡ old.touched → new.root ≡ old.root → new ≡ old
 same_edits old new t r = λ i. record { root = r i; touched = t i }
 
 -- the parent of what stands is a directory
@@ -47,7 +47,7 @@ parent_stands tree formed q qs k some =
 
 module _ (r : ℕ) (cells : List Cell) (sound : IsSound cells) (leaf : Option Held) (old : EditedTree) (path : List ℕ) (one : is_path path ≡ true) (tree : Tree) (is : AreShown cells old tree) where
   -- where something stands, a way leads to it
-  way_stands : is_some (at path tree) ≡ true → hung_at r cells leaf old (names_in path) ≡ None → ⊥
+  pub way_stands : is_some (at path tree) ≡ true → hung_at r cells leaf old (names_in path) ≡ None → ⊥
   way_stands some none = by (names_in path) (names_of_path path one).names (ap (λ p. is_some (at p tree)) (names_of_path path one).path ∙ some) none
     where
       by : (ws : List Name) → are_names ws ≡ true → is_some (at (path_at root_text ws) tree) ≡ true → hung_at r cells leaf old ws ≡ None → ⊥

@@ -125,4 +125,30 @@ impl Edits {
             }
         }
     }
+
+    /// Removes a node and all below it.
+    pub(crate) fn delete(
+        &mut self,
+        alloc: Global,
+        cells: &[Cell],
+        path: &Path,
+        rev: Rev,
+    ) -> Result<(), Unfit>
+        requires { AreEdits rev cells.now self.old }
+        ensures { (from : Option ℕ) → Does rev (told.Delete path.now) cells.now self.old self.new from result }
+    {
+        if !self.stands(cells, path)? {
+            return Err(Unfit::NoNode);
+        }
+        if path.text() == b"/".as_slice() {
+            return Err(Unfit::IsRoot);
+        }
+        match self.hang(alloc, cells, path, None, rev) {
+            Ok(()) => {
+                self.clear_below(path);
+                Ok(())
+            }
+            Err(why) => Err(why),
+        }
+    }
 }

@@ -8,7 +8,7 @@ ghost use Rattle.node_table.specs.Tables.{cell_at};
 ghost use Rattle.tree_edits.specs.Edits.{touched_at, or_touched, held_in, held};
 ghost use Rattle.tree_edits.specs.Rests.{IsRest};
 ghost use Rattle.tree_edits.specs.Reading.{CanRead, CanReadEdits, IsUnder};
-ghost use Rattle.tree_edits.specs.Hanging.{Hangs, hung_in, hung_at};
+ghost use Rattle.tree_edits.specs.Hanging.{Hangs, hung_in, hung_at, cleared};
 
 use crate::copies::copy_line;
 use crate::held::Held;
@@ -141,6 +141,18 @@ impl Edits {
         }
     }
 
+    /// Whether something stands at a path. Its one error is want of memory.
+    pub fn stands(&self, cells: &[Cell], path: &Path) -> Result<bool, NoMemory>
+        requires { CanReadEdits cells.now self.now }
+        ensures there { IfOk result (λ there. there ≡ is_some (held cells.now self.now (names_in path.now))) }
+        ensures path { IsTrue (is_path path.now) }
+    {
+        match self.look(cells, path)? {
+            Some(_place) => Ok(true),
+            None => Ok(false),
+        }
+    }
+
     /// Whether an edit touched a path.
     pub fn has(&self, path: &Path) -> bool
         ensures { result ≡ is_some (touched_at self.now.touched path.now) }
@@ -178,5 +190,13 @@ impl Edits {
                 rev,
             ),
         }
+    }
+
+    /// Forgets what was touched below a path.
+    pub(crate) fn clear_below(&mut self, path: &Path)
+        ensures touched { self.new.touched ≡ cleared path.now self.old.touched }
+        ensures root { self.new.root ≡ self.old.root }
+    {
+        self.touched.clear_below(path.text());
     }
 }
