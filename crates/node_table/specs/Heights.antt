@@ -1,4 +1,4 @@
--- How long ways of names are, as far as the limits of paths need it: a greatest length stands for all above it, too.
+-- How long ways of names are, as far as the limits of paths need it: a greatest length stands for more, too.
 use Rattle.std.specs.Prelude.{◌+◌, min, max, length}
 use Rattle.rev_nodes.specs.declared.height.Height.{Height}
 use Rattle.node_table.specs.Ways.{Name}

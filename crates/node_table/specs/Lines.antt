@@ -1,11 +1,15 @@
 -- The lines that are seen from a place on.
-use Rattle.std.specs.Prelude.{◌≡◌, List, Option, Some, IsTrue}
+use Rattle.std.specs.Prelude.{ℕ, ◌≡◌, List, Option, Some, IsTrue}
 use Rattle.std.specs.Option.{option_map}
 use Rattle.rev_nodes.specs.declared.cell.Cell.{Cell}
 use Rattle.rev_nodes.specs.declared.line.Line.{Line}
 use Rattle.rev_nodes.specs.SoundNodes.{is_from_path}
 use Rattle.node_table.specs.Ways.{Name}
 use Rattle.node_table.specs.Tables.{Spot, walk}
+
+-- a number with the line of its place
+abbrev pub spot_with : ℕ → Line → Spot
+spot_with id line = record { id = id; line = line }
 
 -- the line where names lead to from a place
 abbrev pub line_seen : List Cell → Spot → List Name → Option Line

@@ -96,7 +96,7 @@ abbrev pub height_over : List Cell → List Entry → Height
 height_over cells [] = no_height
 height_over cells (e ∷ es) = higher (height_below e.name (cell_at cells e.id).height) (height_over cells es)
 
--- a directory's entries stand in order, and a file has none; the height is that of the longest ways through them
+-- a directory's entries stand in order, and a file has none; the height is that of the longest ways
 pub record IsCell (cells : List Cell) (id : ℕ) : Type 0 where
   pub sorted : IsTrue (are_in_order (cell_at cells id).entries)
   pub children : (n : Name) (i : ℕ) → child_in cells n id ≡ Some i → IsChild cells id n i

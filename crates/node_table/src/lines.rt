@@ -4,7 +4,7 @@ ghost use Rattle.rev_nodes.specs.SoundNodes.{is_from_path};
 ghost use Rattle.node_table.specs.Ways.{names_in};
 ghost use Rattle.node_table.specs.Tables.{carried_line, below_line, IsSound};
 ghost use Rattle.node_table.specs.Rebuilt.{root_spot};
-ghost use Rattle.node_table.specs.Lines.{line_seen, ComeFromPaths};
+ghost use Rattle.node_table.specs.Lines.{spot_with, line_seen, ComeFromPaths};
 
 use crate::names::first_name;
 use crate::places::below_root;
@@ -67,8 +67,8 @@ fn line_below(above: &Line, name: &[u8], own: &Line) -> Result<Line, NoMemory>
 fn line_from(cells: &[Cell], id: NodeId, line: &Line, rest: &[u8]) -> Result<Option<Line>, NoMemory>
     requires sound { IsSound cells.now }
     requires within { id < length cells.now }
-    requires paths { ComeFromPaths cells.now (record { id = id; line = line.now }) }
-    ensures { IfOk result (λ found. found ≡ line_seen cells.now (record { id = id; line = line.now }) (components rest.now)) }
+    requires paths { ComeFromPaths cells.now (spot_with id line.now) }
+    ensures { IfOk result (λ found. found ≡ line_seen cells.now (spot_with id line.now) (components rest.now)) }
 {
     match first_name(rest) {
         None => match child_at(cells, id, rest) {
@@ -90,7 +90,8 @@ pub fn line_at(cells: &[Cell], root: NodeId, path: &Path) -> Result<Option<Line>
     requires sound { IsSound cells.now }
     requires within { root < length cells.now }
     requires paths { ComeFromPaths cells.now (root_spot cells.now root) }
-    ensures { IfOk result (λ found. found ≡ line_seen cells.now (root_spot cells.now root) (names_in path.now)) }
+    ensures { IfOk result (λ found.
+        found ≡ line_seen cells.now (root_spot cells.now root) (names_in path.now)) }
 {
     let line = &cell_of(cells, root).line;
     match below_root(path.text()) {

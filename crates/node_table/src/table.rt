@@ -103,7 +103,8 @@ impl Table {
     pub fn line(&self, root: NodeId, path: &Path) -> Result<Option<Line>, NoMemory>
         requires within { root < length self.now.cells }
         requires paths { ComeFromPaths self.now.cells (root_spot self.now.cells root) }
-        ensures { IfOk result (λ found. found ≡ line_seen self.now.cells (root_spot self.now.cells root) (names_in path.now)) }
+        ensures { IfOk result (λ found.
+            found ≡ line_seen self.now.cells (root_spot self.now.cells root) (names_in path.now)) }
     {
         line_at(self.nodes.as_slice(), root, path)
     }
