@@ -10,5 +10,5 @@ use Rattle.node_table.specs.Steps.{AreSources, HasSource}
 use Rattle.tree_edits.specs.Edits.{EditedTree, AreShown}
 
 -- the change fits the tree that the edits show, and they show then what it makes of it; or this is why it doesn't fit
-abbrev pub Applies : ℕ → Change → List Cell → EditedTree → EditedTree → Option ℕ → Result Unit Unfit → Type 0
+abbrev pub Applies : {X : Type 0} → ℕ → Change → List Cell → EditedTree → EditedTree → Option ℕ → Result X Unfit → Type 0
 Applies rev change cells old new from result = (trees : List Tree) (tree : Tree) → AreSources trees → AreShown cells old tree → HasSource cells from change trees → Fits (λ done. AreShown cells new (apply change trees tree rev)) (unfit change trees tree) result

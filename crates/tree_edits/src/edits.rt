@@ -1,37 +1,70 @@
 ghost use Rattle.std.specs.Prelude.{◌≡◌, ◌≤◌, ◌+◌, ℕ, [], Some, IfOk, length};
-ghost use Rattle.std.specs.Option.{option_map};
 ghost use Rattle.node_table.specs.Ways.{names_in};
-ghost use Rattle.tree_edits.specs.Edits.{held};
 ghost use Rattle.node_table.specs.Steps.{IsSource};
+ghost use Rattle.tree_edits.specs.Edits.{held};
 ghost use Rattle.tree_edits.specs.AreEdits.{AreEdits};
+ghost use Rattle.tree_edits.specs.Reading.{CanReadEdits};
 ghost use Rattle.tree_edits.specs.Applied.{Applies};
 
+use crate::place::Place;
+use crate::store::Store;
 use dsv_base::{NoMemory, Path, Rev};
-use rev_nodes::{Cell, Change, Kind, NodeId, Unfit};
+use rev_nodes::{Cell, Change, NodeId, Unfit};
 use std::alloc::Global;
 use std::marker::Model;
 
-/// A stand-in.
-#[derive(Debug, Drop)]
+/// Edits over the tree of a root of a table, which itself stays as it is: at each path that a change
+/// touched, what stands there now. Contracts see the root and the touched paths in byte order.
+#[derive(Drop)]
 pub struct Edits {
     root: NodeId,
+    touched: Store,
 }
 
 impl Model for Edits {
-    ghost use Rattle.std.specs.Prelude.{[]};
     ghost use Rattle.tree_edits.specs.Edits.{EditedTree};
 
     ghost Value = { EditedTree };
 
-    ghost view = { λ e. record { root = e.root; touched = [] } };
+    ghost view = { λ e. record { root = e.root; touched = e.touched } };
 }
 
 impl Edits {
     /// No edits, over the tree of a root of the table.
-    pub fn on(_alloc: Global, root: NodeId) -> Edits
+    pub fn on(alloc: Global, root: NodeId) -> Edits
         ensures { result ≡ record { root = root; touched = [] } }
     {
-        Edits { root }
+        Edits {
+            root,
+            touched: Store::new(alloc),
+        }
+    }
+
+    /// The root of the tree that they are over.
+    pub fn root(&self) -> NodeId
+        ensures { result ≡ self.now.root }
+    {
+        self.root
+    }
+
+    /// The touched paths, with what stands there now.
+    pub fn touched(&self) -> &Store
+        ensures { result.now ≡ self.now.touched }
+    {
+        &self.touched
+    }
+
+    /// A stand-in.
+    pub fn look<'a>(
+        &'a self,
+        _cells: &'a [Cell],
+        _path: &Path,
+    ) -> Result<Option<Place<'a>>, NoMemory>
+        requires { CanReadEdits _cells.now self.now }
+        ensures { IfOk result (λ place. place ≡ held _cells.now self.now (names_in _path.now)) }
+    {
+        let _root = self.root;
+        Err(NoMemory)
     }
 
     /// A stand-in.
@@ -51,13 +84,5 @@ impl Edits {
     {
         let _root = self.root;
         Err(Unfit::NoMemory)
-    }
-
-    /// A stand-in.
-    pub fn kind_at(&self, _cells: &[Cell], _path: &Path) -> Result<Option<Kind>, NoMemory>
-        ensures { IfOk result (λ kind. kind ≡ option_map (λ here. here.node.kind) (held _cells.now self.now (names_in _path.now))) }
-    {
-        let _root = self.root;
-        Err(NoMemory)
     }
 }

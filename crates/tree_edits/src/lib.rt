@@ -1,7 +1,20 @@
-//! Edits over a tree of a table of nodes.
+//! Changes of a commit as edits over a table of shared nodes, which stays as it is.
 #![tactic(auto)]
 
+mod copies;
 mod edits;
+mod hanging;
 mod held;
+mod looking;
+mod names;
+mod place;
+mod props;
+mod store;
+mod touch;
 
+pub use copies::{copy_line, copy_node};
 pub use edits::Edits;
+pub use held::Held;
+pub use place::Place;
+pub use store::Store;
+pub use touch::Touch;

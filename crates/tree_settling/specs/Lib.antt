@@ -1,1 +1,3 @@
+pub mod Merged
+pub mod Listed
 pub mod Settled

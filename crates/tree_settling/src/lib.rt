@@ -1,6 +1,12 @@
-//! Edits over a table of nodes, settled into new nodes.
+//! Edits over a tree of the table, settled into new cells of the table.
 #![tactic(auto)]
 
+mod adding;
+mod copies;
+mod heights;
+mod listing;
+mod made;
+mod merging;
 mod settling;
 
-pub use settling::settle;
+pub use settling::{settle, settle_touches};

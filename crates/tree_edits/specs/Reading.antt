@@ -1,0 +1,45 @@
+-- What a table has one name below a place, and what is asked of touched paths that are read.
+use Rattle.std.specs.Prelude.{ℕ, ◌≡◌, ◌<◌, List, Option, Some, None, length, ◌∷◌, [], true}
+use Rattle.std.specs.Option.{option_map, option_and_then}
+use Rattle.dsv_base.specs.Paths.{is_component, components, join_text}
+use Rattle.rev_nodes.specs.declared.cell.Cell.{Cell}
+use Rattle.rev_nodes.specs.declared.line.Line.{Line}
+use Rattle.node_table.specs.Ways.{Name}
+use Rattle.node_table.specs.Tables.{cell_at, child_in, below_line, IsSound}
+use Rattle.tree_edits.specs.Edits.{Held, Touched, EditedTree, touched_at, held_in}
+use Rattle.tree_edits.specs.Rests.{IsRest}
+
+-- what the table has at a name below a place of this line, in what stands there by number
+abbrev pub table_child : List Cell → Line → Option ℕ → Name → Option Held
+table_child cells line under n = option_map (λ i. held_in cells (below_line line n (cell_at cells i).line) i) (option_and_then (child_in cells n) under)
+
+-- the number under a place is one of the table
+abbrev pub IsUnder : List Cell → Option ℕ → Type 0
+IsUnder cells under = (id : ℕ) → under ≡ Some id → id < length cells
+
+-- it is so where something stands
+abbrev pub HasUnder : List Cell → Option Held → Type 0
+HasUnder cells None = Unit {0}
+HasUnder cells (Some here) = IsUnder cells here.under
+
+-- so are those of the touched paths, and the table is sound
+pub record CanRead (cells : List Cell) (touched : Touched) : Type 0 where
+  pub sound : IsSound cells
+  pub within : (path : List ℕ) (here : Held) → touched_at touched path ≡ Some (Some here) → IsUnder cells here.under
+
+-- the root is one of the table too
+pub record CanReadEdits (cells : List Cell) (edits : EditedTree) : Type 0 where
+  pub root : edits.root < length cells
+  pub touched : CanRead cells edits.touched
+
+-- the rest of a path is its last name
+pub record IsLast (text path rest : List ℕ) : Type 0 where
+  pub cut : components rest ≡ rest ∷ []
+  pub is : text ≡ join_text path rest
+
+-- the rest of a path is a name, to which this path leads, and more
+pub record IsNext (text path rest name next after : List ℕ) : Type 0 where
+  pub cut : components rest ≡ name ∷ components after
+  pub is : next ≡ join_text path name
+  pub more : is_component name ≡ true → IsRest text next after
+  pub shorter : length after < length rest

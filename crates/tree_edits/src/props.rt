@@ -1,0 +1,64 @@
+ghost use Rattle.std.specs.Prelude.{◌≡◌, ◌∷◌, ◌++◌, IfOk};
+ghost use Rattle.rev_nodes.specs.Changes.{with_prop, without_prop};
+
+use crate::copies::copy_prop;
+use dsv_base::{Bytes, List, NoMemory, Prop};
+use std::alloc::Global;
+use std::cmp::Ordering;
+
+/// The properties with this one, in byte order of the name.
+pub fn with_prop(
+    alloc: Global,
+    props: &[Prop],
+    name: &Bytes,
+    value: &Bytes,
+) -> Result<List<Prop>, NoMemory>
+    ensures { IfOk result (λ new. new ≡ with_prop (record { name = name.now; value = value.now }) props.now) }
+{
+    let mut new = Vec::with_capacity(alloc, props.len())?;
+    let mut rest = props;
+    'front: while let [first, after @ ..] = rest {
+        match name.get().cmp(first.name.get()) {
+            Ordering::Less => return closed(new, name, value, rest),
+            Ordering::Equal => return closed(new, name, value, after),
+            Ordering::Greater => {
+                new.push(copy_prop(first)?)?;
+                rest = after;
+            }
+        }
+    }
+    closed(new, name, value, rest)
+}
+
+/// The properties so far, then this one, then the rest.
+fn closed(
+    before: Vec<Prop>,
+    name: &Bytes,
+    value: &Bytes,
+    rest: &[Prop],
+) -> Result<List<Prop>, NoMemory>
+    ensures { IfOk result (λ new. new ≡ before.items ++ record { name = name.now; value = value.now } ∷ rest.now) }
+{
+    let mut new = before;
+    new.push(Prop {
+        name: name.copy()?,
+        value: value.copy()?,
+    })?;
+    'rest: for prop in rest {
+        new.push(copy_prop(prop)?)?;
+    }
+    Ok(List::of(new))
+}
+
+/// The properties without this one.
+pub fn without_prop(alloc: Global, props: &[Prop], name: &Bytes) -> Result<List<Prop>, NoMemory>
+    ensures { IfOk result (λ new. new ≡ without_prop name.now props.now) }
+{
+    let mut new = Vec::with_capacity(alloc, props.len())?;
+    'props: for prop in props {
+        if prop.name.get() != name.get() {
+            new.push(copy_prop(prop)?)?;
+        }
+    }
+    Ok(List::of(new))
+}

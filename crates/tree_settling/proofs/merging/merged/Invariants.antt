@@ -1,0 +1,7 @@
+use Rattle.std.proofs.Common.{◌≡◌, ◌++◌, drop}
+use Rattle.tree_settling.proofs.Merges.{zipped}
+use Rattle.tree_settling.proofs.merging.merged.Given as goal
+
+-- what is merged so far, and what the rest comes to, is all
+abbrev pub invariant-changes : goal.invariant-changes
+invariant-changes l = l.all.items ++ zipped (drop l.change-index l.changes) l.rest ≡ zipped l.changes l.entries
