@@ -5,3 +5,4 @@ pub mod Scans
 pub mod Growths
 pub mod Places
 pub mod Turns
+pub mod TreesShown

@@ -3,7 +3,6 @@ ghost use Rattle.node_table.specs.Tables.{IsSound};
 ghost use Rattle.tree_settling.specs.Listed.{AreBehind};
 ghost use Rattle.tree_settling.specs.Settled.{IsCellOf, IsAdded, entries_under};
 
-use crate::copies::{copy_line, copy_node};
 use crate::heights::height_among;
 use crate::listing::listed;
 use crate::made::Made;
@@ -12,7 +11,7 @@ use dsv_base::NoMemory;
 use node_table::cell_of;
 use rev_nodes::{Cell, Entry, NodeId};
 use std::alloc::Global;
-use tree_edits::Held;
+use tree_edits::{Held, copy_line, copy_node};
 
 /// Adds the cell of what stands at a touched path, of which all below it was made before.
 pub(crate) fn add(
@@ -52,7 +51,7 @@ fn cell_for(
     let names = listed(alloc, path, made)?;
     let entries = merged(alloc, entries_under(cells, held), names.as_slice())?;
     let height = height_among(cells, more, entries.get());
-    let node = copy_node(alloc, &held.node)?;
+    let node = copy_node(alloc, &held.node, held.node.created)?;
     let line = copy_line(&held.line)?;
     Ok(Cell {
         node,

@@ -2,7 +2,6 @@
 #![tactic(auto)]
 
 mod adding;
-mod copies;
 mod heights;
 mod listing;
 mod made;

@@ -5,7 +5,6 @@ ghost use Rattle.std.specs.Cmp.Lexicographic.{slice_cmp};
 ghost use Rattle.node_table.specs.Tables.{pair};
 ghost use Rattle.tree_settling.specs.Merged.{AreMerged, before, behind, entry_made};
 
-use crate::copies::copy_entry;
 use crate::made::Made;
 use dsv_base::{Bytes, List, NoMemory};
 use rev_nodes::Entry;
@@ -29,6 +28,13 @@ pub(crate) fn merged(
     }
     copy_all(&mut all, rest)?;
     Ok(List::of(all))
+}
+
+fn copy_entry(entry: &Entry) -> Result<Entry, NoMemory>
+    ensures { IfOk result (λ copy. copy ≡ entry.now) }
+{
+    let name = entry.name.copy()?;
+    Ok(Entry { name, id: entry.id })
 }
 
 fn copy_all(all: &mut Vec<Entry>, entries: &[Entry]) -> Result<(), NoMemory>
