@@ -6,3 +6,5 @@ pub mod Texts
 pub mod Over
 pub mod Views
 pub mod StepsDown
+pub mod Kept
+pub mod Parents

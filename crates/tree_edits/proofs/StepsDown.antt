@@ -125,3 +125,37 @@ module _ (r : ℕ) (cells : List Cell) (leaf : Option Held) where
           by : (b : Bool) → MatchBool b (Unit {0}) ((why ≡ NoParent) × (hung_below r cells leaf new next (marked_held r m.here) (components after) ≡ None)) → MatchBool b (Unit {0}) ((why ≡ NoParent) × (hung_below r cells leaf old path above (components rest) ≡ None))
           by true h = tt
           by false h = (h.0, step_is new before place place_is m ∙ h.1)
+
+-- ---- from the root
+
+module _ (r : ℕ) (cells : List Cell) (leaf : Option Held) (old : Touched) (path rest : List ℕ) (place : Option Held) where
+  on_step : (new : Touched) (before : Option ℕ) (m : IsMarked r place path old new before) → IsSplit rest → hung_in r cells leaf old path place (components rest) ≡ hung_below r cells leaf new path (marked_held r m.here) (components rest)
+  on_step new before m s =
+      ap (λ o. hung_in r cells leaf old path o (components rest)) m.is
+      ∙ ap (hung_in r cells leaf old path (Some m.here)) s.is
+      ∙ dir_step r cells leaf old path m.here s.first s.rest m.dir
+      ∙ ap (λ t. hung_below r cells leaf t path (marked_held r m.here) (s.first ∷ s.rest)) (sym m.made)
+      ∙ ap (hung_below r cells leaf new path (marked_held r m.here)) (sym s.is)
+
+  no_start : stands_dir place ≡ false → IsSplit rest → hung_in r cells leaf old path place (components rest) ≡ None
+  no_start none s = ap (hung_in r cells leaf old path place) s.is ∙ no_step r cells leaf old path place s.first s.rest none
+
+  pub start_fails : (new : Touched) (why : Unfit) → (new ≡ old) × MatchBool (is_want why) (Unit {0}) ((why ≡ NoParent) × (stands_dir place ≡ false)) → (new ≡ old) × MatchBool (is_want why) (Unit {0}) ((why ≡ NoParent) × (hung_in r cells leaf old path place (components rest) ≡ None))
+  start_fails new why t = (t.0, by (is_want why) t.1)
+    where
+      by : (b : Bool) → MatchBool b (Unit {0}) ((why ≡ NoParent) × (stands_dir place ≡ false)) → MatchBool b (Unit {0}) ((why ≡ NoParent) × (hung_in r cells leaf old path place (components rest) ≡ None))
+      by true h = tt
+      by false h = (h.0, no_start h.1 (split_some rest))
+
+  pub start_went : (new last : Touched) (before : Option ℕ) (m : IsMarked r place path old new before) → ((above : Held) → touched_at new path ≡ Some (Some above) → hung_below r cells leaf new path above (components rest) ≡ Some last) → hung_in r cells leaf old path place (components rest) ≡ Some last
+  start_went new last before m go = on_step new before m (split_some rest) ∙ go (marked_held r m.here) (here_now r old new path before place m)
+
+  pub start_back : (new : Touched) (before : Option ℕ) (m : IsMarked r place path old new before) → in_order old ≡ true → (mid last : Touched) (why : Unfit) → ((above : Held) → touched_at new path ≡ Some (Some above) → (mid ≡ new) × MatchBool (is_want why) (Unit {0}) ((why ≡ NoParent) × (hung_below r cells leaf new path above (components rest) ≡ None))) → Untouches before path mid last
+      → (last ≡ old) × MatchBool (is_want why) (Unit {0}) ((why ≡ NoParent) × (hung_in r cells leaf old path place (components rest) ≡ None))
+  start_back new before m sorted mid last why go back =
+      let g = go (marked_held r m.here) (here_now r old new path before place m) in
+      (unmarked r place path old new before sorted m last (subst (λ t. Untouches before path t last) g.0 back), by (is_want why) g.1)
+    where
+      by : (b : Bool) → MatchBool b (Unit {0}) ((why ≡ NoParent) × (hung_below r cells leaf new path (marked_held r m.here) (components rest) ≡ None)) → MatchBool b (Unit {0}) ((why ≡ NoParent) × (hung_in r cells leaf old path place (components rest) ≡ None))
+      by true h = tt
+      by false h = (h.0, on_step new before m (split_some rest) ∙ h.1)

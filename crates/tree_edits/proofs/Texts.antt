@@ -16,16 +16,16 @@ use Rattle.tree_edits.proofs.Short.{size, size-append, path-size, is_path_from}
 
 -- ---- names
 
-record HasEnd (x : Name) (xs : List Name) : Type 0 where
-  front : List Name
-  last : Name
-  is : x ∷ xs ≡ front ++ last ∷ []
+pub record HasEnd (x : Name) (xs : List Name) : Type 0 where
+  pub front : List Name
+  pub last : Name
+  pub is : x ∷ xs ≡ front ++ last ∷ []
 
-ends : (x : Name) (xs : List Name) → HasEnd x xs
+pub ends : (x : Name) (xs : List Name) → HasEnd x xs
 ends x [] = record { front = []; last = x; is = refl }
 ends x (y ∷ ys) = let e = ends y ys in record { front = x ∷ e.front; last = e.last; is = ap (λ zs. x ∷ zs) e.is }
 
-parts_of : (ms : List Name) (n : Name) → are_names (ms ++ n ∷ []) ≡ true → (are_names ms ≡ true) × (is_component n ≡ true)
+pub parts_of : (ms : List Name) (n : Name) → are_names (ms ++ n ∷ []) ≡ true → (are_names ms ≡ true) × (is_component n ≡ true)
 parts_of [] n h = (refl, (and_parts (is_component n) true h).0)
 parts_of (m ∷ ms) n h = let p = and_parts (is_component m) (are_names (ms ++ n ∷ [])) h in let q = parts_of ms n p.1 in (and_from _ _ p.0 q.0, q.1)
 

@@ -1,14 +1,24 @@
-ghost use Rattle.std.specs.Prelude.{◌≡◌, ◌≤◌, ◌+◌, ℕ, [], Some, IfOk, length};
-ghost use Rattle.node_table.specs.Ways.{names_in};
+ghost use Rattle.std.specs.Prelude.{◌≡◌, ◌<◌, [], true, Some, IfOk, IsTrue, is_some, length, ℕ, ◌≤◌, ◌+◌};
 ghost use Rattle.node_table.specs.Steps.{IsSource};
-ghost use Rattle.tree_edits.specs.Edits.{held};
 ghost use Rattle.tree_edits.specs.AreEdits.{AreEdits};
-ghost use Rattle.tree_edits.specs.Reading.{CanReadEdits};
 ghost use Rattle.tree_edits.specs.Applied.{Applies};
+ghost use Rattle.std.specs.FinMap.{is_sorted};
+ghost use Rattle.std.specs.Ordering.{nat_cmp};
+ghost use Rattle.std.specs.Cmp.Lexicographic.{slice_cmp};
+ghost use Rattle.dsv_base.specs.Paths.{components, root_text, is_path};
+ghost use Rattle.node_table.specs.Ways.{are_names, names_in};
+ghost use Rattle.node_table.specs.Tables.{cell_at};
+ghost use Rattle.tree_edits.specs.Edits.{touched_at, or_touched, held_in, held};
+ghost use Rattle.tree_edits.specs.Rests.{IsRest};
+ghost use Rattle.tree_edits.specs.Reading.{CanRead, CanReadEdits, IsUnder};
+ghost use Rattle.tree_edits.specs.Hanging.{Hangs, hung_in, hung_at};
 
+use crate::copies::copy_line;
+use crate::held::Held;
 use crate::place::Place;
 use crate::store::Store;
 use dsv_base::{NoMemory, Path, Rev};
+use node_table::{below_root, cell_of};
 use rev_nodes::{Cell, Change, NodeId, Unfit};
 use std::alloc::Global;
 use std::marker::Model;
@@ -27,6 +37,69 @@ impl Model for Edits {
     ghost Value = { EditedTree };
 
     ghost view = { λ e. record { root = e.root; touched = e.touched } };
+}
+
+/// What the table has at a root.
+fn root_place(cells: &[Cell], root: NodeId) -> Result<Place<'_>, NoMemory>
+    requires { root < length cells.now }
+    ensures { IfOk result (λ place. place ≡ held_in cells.now (cell_at cells.now root).line root) }
+{
+    let cell = cell_of(cells, root);
+    let line = copy_line(&cell.line)?;
+    Ok(Place::of(&cell.node, line, Some(root)))
+}
+
+/// What stands at a root.
+fn root_held<'a>(
+    store: &'a Store,
+    cells: &'a [Cell],
+    root: NodeId,
+) -> Result<Option<Place<'a>>, NoMemory>
+    requires { root < length cells.now }
+    ensures { IfOk result (λ place. place ≡ or_touched (touched_at store.now root_text)
+        (Some (held_in cells.now (cell_at cells.now root).line root))) }
+{
+    match store.get(b"/") {
+        None => Ok(Some(root_place(cells, root)?)),
+        Some(None) => Ok(None),
+        Some(Some(held)) => {
+            let line = copy_line(&held.line)?;
+            Ok(Some(Place::of(&held.node, line, held.under)))
+        }
+    }
+}
+
+/// Puts what stands at the end of a way from the root down.
+fn hang_root(
+    store: &mut Store,
+    alloc: Global,
+    cells: &[Cell],
+    root: NodeId,
+    text: &[u8],
+    rest: &[u8],
+    leaf: Option<Held>,
+    rev: Rev,
+) -> Result<(), Unfit>
+    requires root { root < length cells.now }
+    requires sorted { is_sorted (slice_cmp nat_cmp) store.old ≡ true }
+    requires can { CanRead cells.now store.old }
+    requires rest { IsRest text.now root_text rest.now }
+    requires names { are_names (components rest.now) ≡ true }
+    ensures { Hangs (hung_in rev cells.now leaf store.old root_text (or_touched (touched_at store.old root_text)
+        (Some (held_in cells.now (cell_at cells.now root).line root))) (components rest.now)) store.old store.new result }
+{
+    let place = root_place(cells, root)?;
+    let before = match store.touch(alloc, b"/", Some(place), rev) {
+        Ok(before) => before,
+        Err(why) => return Err(why),
+    };
+    match store.hang_below(alloc, cells, text, b"/", rest, leaf, rev) {
+        Ok(()) => Ok(()),
+        Err(why) => {
+            store.untouch(b"/", before);
+            Err(why)
+        }
+    }
 }
 
 impl Edits {
@@ -55,19 +128,6 @@ impl Edits {
     }
 
     /// A stand-in.
-    pub fn look<'a>(
-        &'a self,
-        _cells: &'a [Cell],
-        _path: &Path,
-    ) -> Result<Option<Place<'a>>, NoMemory>
-        requires { CanReadEdits _cells.now self.now }
-        ensures { IfOk result (λ place. place ≡ held _cells.now self.now (names_in _path.now)) }
-    {
-        let _root = self.root;
-        Err(NoMemory)
-    }
-
-    /// A stand-in.
     pub fn apply(
         &mut self,
         _alloc: Global,
@@ -84,5 +144,63 @@ impl Edits {
     {
         let _root = self.root;
         Err(Unfit::NoMemory)
+    }
+
+    /// What stands at a path, if anything does. Its one error is want of memory.
+    pub fn look<'a>(
+        &'a self,
+        cells: &'a [Cell],
+        path: &Path,
+    ) -> Result<Option<Place<'a>>, NoMemory>
+        requires { CanReadEdits cells.now self.now }
+        ensures { IfOk result (λ place. place ≡ held cells.now self.now (names_in path.now)) }
+    {
+        let text = path.text();
+        let Some(place) = root_held(&self.touched, cells, self.root)? else {
+            return Ok(None);
+        };
+        match below_root(text) {
+            None => Ok(Some(place)),
+            Some(rest) => self.touched.look_below(cells, text, b"/", &place, rest),
+        }
+    }
+
+    /// Whether an edit touched a path.
+    pub fn has(&self, path: &Path) -> bool
+        ensures { result ≡ is_some (touched_at self.now.touched path.now) }
+    {
+        self.touched.has(path.text())
+    }
+
+    /// Puts what stands at a path, and marks the directories above it. Where one of them is none, or
+    /// memory is wanting, nothing is changed.
+    pub(crate) fn hang(
+        &mut self,
+        alloc: Global,
+        cells: &[Cell],
+        path: &Path,
+        leaf: Option<Held>,
+        rev: Rev,
+    ) -> Result<(), Unfit>
+        requires can { CanReadEdits cells.now self.old }
+        requires sorted { is_sorted (slice_cmp nat_cmp) self.old.touched ≡ true }
+        ensures says { Hangs (hung_at rev cells.now leaf self.old (names_in path.now)) self.old.touched self.new.touched result }
+        ensures root { self.new.root ≡ self.old.root }
+        ensures path { IsTrue (is_path path.now) }
+    {
+        let text = path.text();
+        match below_root(text) {
+            None => self.touched.put(alloc, b"/", leaf),
+            Some(rest) => hang_root(
+                &mut self.touched,
+                alloc,
+                cells,
+                self.root,
+                text,
+                rest,
+                leaf,
+                rev,
+            ),
+        }
     }
 }
