@@ -67,7 +67,8 @@ fn settled(
     requires { AreEdits rev cells.now edits.now }
     ensures { IfOk result (λ x. IsSettled rev cells.now edits.now x.0.items x.1) }
 {
-    settle(alloc, cells, edits.root(), edits.touched())
+    let all = settle(alloc, cells, edits.root(), edits.touched())?;
+    Ok(all)
 }
 
 /// Does the changes in order, up to the first that doesn't fit.

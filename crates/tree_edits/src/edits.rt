@@ -147,11 +147,7 @@ impl Edits {
     }
 
     /// What stands at a path, if anything does. Its one error is want of memory.
-    pub fn look<'a>(
-        &'a self,
-        cells: &'a [Cell],
-        path: &Path,
-    ) -> Result<Option<Place<'a>>, NoMemory>
+    pub fn look<'a>(&'a self, cells: &'a [Cell], path: &Path) -> Result<Option<Place<'a>>, NoMemory>
         requires { CanReadEdits cells.now self.now }
         ensures { IfOk result (λ place. place ≡ held cells.now self.now (names_in path.now)) }
     {
