@@ -48,12 +48,7 @@ impl Store {
     }
 
     /// Adds a path. Its one error is want of memory, which can come only where it wasn't touched.
-    pub(crate) fn add(
-        &mut self,
-        alloc: Global,
-        path: &[u8],
-        edit: Option<Held>,
-    ) -> Result<(), NoMemory>
+    pub(crate) fn add(&mut self, alloc: Global, path: &[u8], edit: Option<Held>) -> Result<(), NoMemory>
         ensures done { OnOk result (self.new ≡ with_edit path.now edit self.old) }
         ensures kept { OnErr result (self.new ≡ self.old) }
     {
