@@ -223,13 +223,13 @@ module _ (cells : List Cell) (sound : IsSound cells) (r : ℕ) where
     touched_is = λ edit e. sym (ap (λ o. or_touched o (child_of cells n h)) e);
     fits = λ x e. fits_by x (touched_at (marked_at r path h touched) (join_text path n)) refl e;
     up = λ parent par. subst (λ q. IsMarkedDir r (marked_at r path h touched) q (child_held cells (marked_at r path h touched) path n h)) (let s : Some path ≡ Some parent = sym is ∙ par in let t : path ≡ parent = cc in t) (record {
-        above = marked_held r h;
-        there = touched-here path (Some (marked_held r h)) touched;
-        dir = dir;
-        created = refl;
-        began = (p.fits h refl).since;
-        since = λ x e. since_by x (touched_at (marked_at r path h touched) (join_text path n)) refl e;
-      });
+      above = marked_held r h;
+      there = touched-here path (Some (marked_held r h)) touched;
+      dir = dir;
+      created = refl;
+      began = (p.fits h refl).since;
+      since = λ x e. since_by x (touched_at (marked_at r path h touched) (join_text path n)) refl e;
+    });
     root_stands = λ none. absurd (let s = sym is ∙ none in cc s);
   }
     where
@@ -272,8 +272,8 @@ module _ (cells : List Cell) (sound : IsSound cells) (r : ℕ) where
       let next_one : is_path (join_text path n) ≡ true = ap is_path at_next ∙ front_is_path (ds ++ n ∷ []) ns (names_more ds n d q.0) q.1 (ap is_path (path_at-append root_text (ds ++ n ∷ []) ns ∙ ap (λ t. path_at t ns) (sym at_next)) ∙ one) in
       let par : parent_text (join_text path n) ≡ Some path = ap (λ t. parent_text (join_text t n)) is ∙ parent_at ds n d q.0 ∙ ap Some (sym is) in
       kept_in leaf ns (ds ++ n ∷ []) (marked_at r path h touched) (join_text path n) (child_held cells (marked_at r path h touched) path n h) new q.1 (names_more ds n d q.0) at_next one (mark_kept touched path h a p) (next_place touched path h n a p s.dir next_one par) s.next
-          (λ t here at pt held_is below. ends t here at pt (held_is ∙ unmarked_held touched path h n ns k) (λ x edit f up.
-            let l = longer-join path n q.0 in
-            let far = longer_at ns (join_text path n) q.1 in
-            let less = shorter_parent x (path_at (join_text path n) ns) ((at.placed x edit f).one) up in
-            sym (touched-other x path (Some (marked_held r h)) touched (longer_apart x path (omega (arith, l, far, less)))) ∙ below x edit f up))
+      (λ t here at pt held_is below. ends t here at pt (held_is ∙ unmarked_held touched path h n ns k) (λ x edit f up.
+      let l = longer-join path n q.0 in
+      let far = longer_at ns (join_text path n) q.1 in
+      let less = shorter_parent x (path_at (join_text path n) ns) ((at.placed x edit f).one) up in
+      sym (touched-other x path (Some (marked_held r h)) touched (longer_apart x path (omega (arith, l, far, less)))) ∙ below x edit f up))

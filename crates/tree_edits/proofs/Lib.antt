@@ -8,3 +8,8 @@ pub mod Views
 pub mod StepsDown
 pub mod Kept
 pub mod Parents
+pub mod Doing
+pub mod Steps
+pub mod Clearing
+pub mod Gone
+pub mod Deleting

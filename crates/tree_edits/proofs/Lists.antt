@@ -1,6 +1,6 @@
 -- Touched paths as a list in byte order: what is found after a path is put there or taken away.
 use Rattle.std.proofs.Common.{Ordering, Less, Equal, Greater, ◌≡◌, ℕ, suc, ◌+◌, ◌≤◌, Bool, true, false, cond, not, ◌&&◌, ◌||◌, T, List, [], ◌∷◌, Option, None, Some, length, map, refl, sym, ap, subst, ◌∙◌, arith}
-use Rattle.std.specs.Prelude.{if◌then◌else◌, is_some}
+use Rattle.std.specs.Prelude.{if◌then◌else◌, is_some, filter}
 use Rattle.std.specs.Str.{bytes_eq}
 use Rattle.std.specs.BTreeMap.{insert_entry}
 use Rattle.std.specs.Map.{lookup, set_value, remove_entry}
@@ -13,7 +13,7 @@ use Rattle.std.proofs.lemmas.Bool.{and_parts}
 use Rattle.std.proofs.lemmas.Map.Lookups.{exact_bytes}
 use Rattle.rev_nodes.proofs.Forming.{tied, tied_self}
 use Rattle.tree_edits.specs.Edits.{Held, Touched, touched_at}
-use Rattle.tree_edits.specs.Hanging.{with_edit, without_edit, cleared, marked_held, marked_at}
+use Rattle.tree_edits.specs.Hanging.{with_edit, without_edit, is_below, cleared, marked_held, marked_at}
 use Rattle.tree_edits.specs.Stored.{touched_of}
 
 abbrev pub order : List ℕ → List ℕ → Ordering
@@ -141,6 +141,14 @@ module _ {K : Type 0} (text : K → List ℕ) where
       by Equal t h go = refl
       by Greater t h go = ap (λ xs. (text e.0, e.1) ∷ xs) (go h)
 
+  pub filtered : (path : List ℕ) (es : List (K × Option Held)) → touched_of text (filter (λ (e : K × Option Held). not (is_below (text e.0) path)) es) ≡ cleared path (touched_of text es)
+  filtered path [] = refl
+  filtered path (e ∷ es) = by (not (is_below (text e.0) path)) (filtered path es)
+    where
+      by : (b : Bool) → touched_of text (filter (λ (x : K × Option Held). not (is_below (text x.0) path)) es) ≡ cleared path (touched_of text es) → touched_of text (cond b (e ∷ filter (λ (x : K × Option Held). not (is_below (text x.0) path)) es) (filter (λ (x : K × Option Held). not (is_below (text x.0) path)) es)) ≡ cond b ((text e.0, e.1) ∷ cleared path (touched_of text es)) (cleared path (touched_of text es))
+      by true go = ap (λ xs. (text e.0, e.1) ∷ xs) go
+      by false go = go
+
   -- ---- for the code
 
   module _ (q : List ℕ) (old new : List (K × Option Held)) (touched : Touched) (is : touched_of text old ≡ touched) where
@@ -161,3 +169,6 @@ module _ {K : Type 0} (text : K → List ℕ) where
         let both : Some (Some here) ≡ Some (Some found) = sym there ∙ found_is in
         let same : found ≡ here = cc in
         set_is (Some (marked_held r found)) sorted (ap is_some there) e ∙ ap (λ h. marked_at r q h touched) same
+
+    pub cleared_is : (path : List ℕ) → new ≡ filter (λ (e : K × Option Held). not (is_below (text e.0) path)) old → touched_of text new ≡ cleared path touched
+    cleared_is path e = ap (touched_of text) e ∙ filtered path old ∙ ap (cleared path) is

@@ -43,7 +43,7 @@ module _ (r : ℕ) (cells : List Cell) (sound : IsSound cells) (leaf : Option He
       let d = dirs [] (q ∷ qs) refl in
       let p = and_parts (is_component q) (are_names qs) k in
       by (is_dir_kind h.node.kind) d e (λ f. all_dirs qs last (marked_at r path h touched) (join_text path q) (child_held cells (marked_at r path h touched) path q h) p.1
-          (λ fs gs is. ap (λ o. is_dir (option_map shown_node o)) (unmarked_held cells sound r touched path h q fs (front_names fs gs (ap are_names (ap (λ xs. q ∷ xs) is) ∙ k))) ∙ dirs (q ∷ fs) gs (ap (λ xs. q ∷ xs) is)) f)
+      (λ fs gs is. ap (λ o. is_dir (option_map shown_node o)) (unmarked_held cells sound r touched path h q fs (front_names fs gs (ap are_names (ap (λ xs. q ∷ xs) is) ∙ k))) ∙ dirs (q ∷ fs) gs (ap (λ xs. q ∷ xs) is)) f)
     where
       front_names : (fs gs : List Name) → are_names (q ∷ fs ++ gs) ≡ true → are_names (q ∷ fs) ≡ true
       front_names fs gs z = let x = and_parts (is_component q) (are_names (fs ++ gs)) z in and_from (is_component q) (are_names fs) x.0 (only fs gs x.1)

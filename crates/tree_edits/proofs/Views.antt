@@ -196,7 +196,7 @@ module _ (r : ℕ) (cells : List Cell) (leaf : Option Held) where
       (or_default (touched_at new.touched root_text) (Some (held_in cells (cell_at cells new.root).line new.root)) (held_root cells old) (start_touched ns old.touched root_text (held_root cells old) new.touched k e))
       ∙ rebuilt_in ns [] old.touched root_text (held_root cells old) new.touched k refl refl e ms m
 
-  module _ (way : List Name) (old new : EditedTree) (named : are_names way ≡ true) (root_is : new.root ≡ old.root) (hung : hung_at r cells leaf old way ≡ Some new.touched) (tree : Tree) (shows : (ns : List Name) → are_names ns ≡ true → at (path_at root_text ns) tree ≡ shown cells old ns) where
+  module _ (way : List Name) (old new : EditedTree) (named : are_names way ≡ true) (root_is : new.root ≡ old.root) (hung : hung_at r cells leaf old way ≡ Some new.touched) (tree : Tree) (shows : (ns : List Name) → are_names ns ≡ true → is_front way ns ≡ false → at (path_at root_text ns) tree ≡ shown cells old ns) where
     abbrev pub ShowsNew : Tree → Type 0
     ShowsNew other = (ns : List Name) → are_names ns ≡ true → at (path_at root_text ns) other ≡ shown cells new ns
 
@@ -207,7 +207,7 @@ module _ (r : ℕ) (cells : List Cell) (leaf : Option Held) where
     over_shown over here below aside ns k =
         at-marked r (path_at root_text way) over (path_at root_text ns)
         ∙ ap (λ b. option_map (stamped r b) (at (path_at root_text ns) over)) (under-front ns way k named)
-        ∙ sym (rebuilt_over r way (shown cells old) (λ ms. at (path_at root_text ms) over) (hung_view new.touched (path_at root_text way)) named here below (λ ms z f. aside ms z f ∙ shows ms z) ns k)
+        ∙ sym (rebuilt_over r way (shown cells old) (λ ms. at (path_at root_text ms) over) (hung_view new.touched (path_at root_text way)) named here below (λ ms z f. aside ms z f ∙ shows ms z f) ns k)
         ∙ sym (rebuilt_edits way old new named root_is hung ns k)
 
     not_here : (ns : List Name) → are_names ns ≡ true → (ns ≡ way → ⊥) → is_at (path_at root_text ns) (path_at root_text way) ≡ false

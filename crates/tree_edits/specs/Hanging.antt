@@ -1,5 +1,5 @@
 -- How one place is put over others, with marks on the directories above it.
-use Rattle.std.specs.Prelude.{ℕ, ◌≡◌, Bool, true, false, List, [], ◌∷◌, Option, None, Some, Result, Ok, Err, MatchBool, not, ◌||◌, cond, if◌then◌else◌}
+use Rattle.std.specs.Prelude.{ℕ, ◌≡◌, Bool, true, false, List, [], ◌∷◌, Option, None, Some, Result, Ok, Err, MatchBool, not, ◌&&◌, cond, if◌then◌else◌}
 use Rattle.std.specs.Option.{option_map}
 use Rattle.std.specs.FinMap.{put}
 use Rattle.std.specs.FinMap.Entries.{where_key}
@@ -41,9 +41,13 @@ abbrev pub without_edit : List ℕ → Touched → Touched
 without_edit path [] = []
 without_edit path (e ∷ es) = cond (eq_by_cmp (slice_cmp nat_cmp) path e.0) es (e ∷ without_edit path es)
 
+-- a path stands below another
+abbrev pub is_below : List ℕ → List ℕ → Bool
+is_below p path = not (bytes_eq p path) && is_under p path
+
 -- the touched paths without those below this one
 abbrev pub cleared : List ℕ → Touched → Touched
-cleared path touched = where_key (slice_cmp nat_cmp) (λ p. not (is_under p path) || bytes_eq p path) touched
+cleared path touched = where_key (slice_cmp nat_cmp) (λ p. not (is_below p path)) touched
 
 -- the touched paths with what stands at a place marked
 abbrev pub marked_at : ℕ → List ℕ → Held → Touched → Touched

@@ -11,7 +11,7 @@ ghost use Rattle.node_table.specs.Tables.{cell_at};
 ghost use Rattle.tree_edits.specs.Edits.{touched_at, or_touched, held_in, held};
 ghost use Rattle.tree_edits.specs.Rests.{IsRest};
 ghost use Rattle.tree_edits.specs.Reading.{CanRead, CanReadEdits, IsUnder};
-ghost use Rattle.tree_edits.specs.Hanging.{Hangs, hung_in, hung_at};
+ghost use Rattle.tree_edits.specs.Hanging.{Hangs, hung_in, hung_at, cleared};
 
 use crate::copies::copy_line;
 use crate::held::Held;
@@ -149,7 +149,8 @@ impl Edits {
     /// What stands at a path, if anything does. Its one error is want of memory.
     pub fn look<'a>(&'a self, cells: &'a [Cell], path: &Path) -> Result<Option<Place<'a>>, NoMemory>
         requires { CanReadEdits cells.now self.now }
-        ensures { IfOk result (λ place. place ≡ held cells.now self.now (names_in path.now)) }
+        ensures place { IfOk result (λ place. place ≡ held cells.now self.now (names_in path.now)) }
+        ensures path { IsTrue (is_path path.now) }
     {
         let text = path.text();
         let Some(place) = root_held(&self.touched, cells, self.root)? else {
@@ -158,6 +159,18 @@ impl Edits {
         match below_root(text) {
             None => Ok(Some(place)),
             Some(rest) => self.touched.look_below(cells, text, b"/", &place, rest),
+        }
+    }
+
+    /// Whether something stands at a path. Its one error is want of memory.
+    pub fn stands(&self, cells: &[Cell], path: &Path) -> Result<bool, NoMemory>
+        requires { CanReadEdits cells.now self.now }
+        ensures there { IfOk result (λ there. there ≡ is_some (held cells.now self.now (names_in path.now))) }
+        ensures path { IsTrue (is_path path.now) }
+    {
+        match self.look(cells, path)? {
+            Some(_place) => Ok(true),
+            None => Ok(false),
         }
     }
 
@@ -198,5 +211,13 @@ impl Edits {
                 rev,
             ),
         }
+    }
+
+    /// Forgets what was touched below a path.
+    pub(crate) fn clear_below(&mut self, path: &Path)
+        ensures touched { self.new.touched ≡ cleared path.now self.old.touched }
+        ensures root { self.new.root ≡ self.old.root }
+    {
+        self.touched.clear_below(path.text());
     }
 }

@@ -29,7 +29,12 @@ impl Store {
 
     /// Puts what stands at a path now. Its one error is want of memory, which can come only where it
     /// wasn't touched.
-    pub(crate) fn put(&mut self, alloc: Global, path: &[u8], edit: Option<Held>) -> Result<(), Unfit>
+    pub(crate) fn put(
+        &mut self,
+        alloc: Global,
+        path: &[u8],
+        edit: Option<Held>,
+    ) -> Result<(), Unfit>
         requires sorted { is_sorted (slice_cmp nat_cmp) self.old ≡ true }
         ensures { Hangs (Some (with_edit path.now edit self.old)) self.old self.new result }
     {

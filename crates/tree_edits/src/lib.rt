@@ -1,6 +1,7 @@
 //! Changes of a commit as edits over a table of shared nodes, which stays as it is.
 #![tactic(auto)]
 
+mod changes;
 mod copies;
 mod edits;
 mod hanging;

@@ -9,7 +9,7 @@ ghost use Rattle.tree_edits.specs.Hanging.{child_held};
 
 use crate::copies::copy_line;
 use crate::names::next_name;
-use crate::place::{below_line, Place};
+use crate::place::{Place, below_line};
 use crate::store::Store;
 use dsv_base::NoMemory;
 use node_table::{cell_of, child_at};

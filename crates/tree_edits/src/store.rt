@@ -3,9 +3,10 @@ ghost use Rattle.std.specs.Option.{option_copied};
 ghost use Rattle.std.specs.FinMap.{is_sorted};
 ghost use Rattle.std.specs.Ordering.{nat_cmp};
 ghost use Rattle.std.specs.Cmp.Lexicographic.{slice_cmp};
+ghost use Rattle.dsv_base.specs.Paths.{is_under};
 ghost use Rattle.tree_edits.specs.Edits.{touched_at};
 ghost use Rattle.tree_edits.specs.Edits.{Held as HeldRecord};
-ghost use Rattle.tree_edits.specs.Hanging.{with_edit, without_edit, marked_at, cleared};
+ghost use Rattle.tree_edits.specs.Hanging.{with_edit, without_edit, marked_at, is_below, cleared};
 ghost use Rattle.tree_edits.specs.Stored.{touched_of};
 
 use crate::held::Held;
@@ -48,7 +49,12 @@ impl Store {
     }
 
     /// Adds a path. Its one error is want of memory, which can come only where it wasn't touched.
-    pub(crate) fn add(&mut self, alloc: Global, path: &[u8], edit: Option<Held>) -> Result<(), NoMemory>
+    pub(crate) fn add(
+        &mut self,
+        alloc: Global,
+        path: &[u8],
+        edit: Option<Held>,
+    ) -> Result<(), NoMemory>
         ensures done { OnOk result (self.new ≡ with_edit path.now edit self.old) }
         ensures kept { OnErr result (self.new ≡ self.old) }
     {
@@ -94,6 +100,14 @@ impl Store {
     {
         touches_in(alloc, &self.map)
     }
+
+    /// Takes out all paths below one.
+    pub(crate) fn clear_below(&mut self, path: &[u8])
+        ensures { self.new ≡ cleared path.now self.old }
+    {
+        self.map
+            .retain(|key, _edit| !is_below(key.as_slice(), path));
+    }
 }
 
 fn touches_in<'a>(
@@ -107,4 +121,23 @@ fn touches_in<'a>(
         all.push(Touch::of(path.as_slice(), held.as_ref()))?;
     }
     Ok(all)
+}
+
+/// Whether a path stands below another.
+fn is_below(text: &[u8], top: &[u8]) -> bool
+    ensures { result ≡ is_below text.now top.now }
+{
+    if text == top {
+        return false;
+    }
+    is_under(text, top)
+}
+
+#[tactic(auto, unfolding(dsv_base::specs::Paths::is_under))]
+fn is_under(text: &[u8], top: &[u8]) -> bool
+    ensures { result ≡ is_under text.now top.now }
+{
+    text == top
+        || top == b"/".as_slice()
+        || (text.starts_with(top) && text.len() > top.len() && text[top.len()] == b'/')
 }

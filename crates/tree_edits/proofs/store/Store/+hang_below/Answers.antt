@@ -13,10 +13,16 @@ pub hang_below-requires : goal.hang_below-requires
 hang_below-requires t c =
     let names = first_name_is c.args.rest.now c.in-Some.name.now c.in-Some.after.now c.in-Some.ensures.cut c.requires.names in
     let less = c.in-Some.ensures.shorter in
-    let d = c.decreases in
-    (omega (arith, less, d), (marked_order c.args.rev _ c.in-Some.next.now c.args.self.now c.touch.new.self c.in-Ok.before c.requires.sorted c.in-Ok.ensures,
-    (marked_can c.args.cells.now c.args.rev _ c.in-Some.next.now c.args.self.now c.touch.new.self c.in-Ok.before c.requires.can (can_touched c.args.cells.now c.args.self.now c.in-Some.next.now c.in_ok-place-in-Some.place c.requires.can c.in_ok-place-in-Some.ensures.under) c.in-Ok.ensures,
-    (c.in-Some.ensures.more names.0, names.1))))
+    let d = c.decreases in (
+      omega (arith, less, d),
+      (
+        marked_order c.args.rev _ c.in-Some.next.now c.args.self.now c.touch.new.self c.in-Ok.before c.requires.sorted c.in-Ok.ensures,
+        (
+          marked_can c.args.cells.now c.args.rev _ c.in-Some.next.now c.args.self.now c.touch.new.self c.in-Ok.before c.requires.can (can_touched c.args.cells.now c.args.self.now c.in-Some.next.now c.in_ok-place-in-Some.place c.requires.can c.in_ok-place-in-Some.ensures.under) c.in-Ok.ensures,
+          (c.in-Some.ensures.more names.0, names.1),
+        ),
+      ),
+    )
 
 pub untouch-requires : goal.untouch-requires
 untouch-requires t c = record {
