@@ -11,6 +11,8 @@ use Rattle.node_table.specs.Shown.{IsShown}
 use Rattle.node_table.proofs.Growing.{walk_none}
 use Rattle.tree_edits.specs.declared.held.Held.{Held}
 use Rattle.tree_edits.specs.Edits.{EditedTree, held_in, held_from, shown_node, shown, AreShown}
+use Rattle.tree_edits.specs.AreEdits.{AreEdits}
+use Rattle.tree_edits.specs.Reading.{CanReadEdits}
 
 -- no edits, over the tree of a root
 abbrev pub untouched : ℕ → EditedTree
@@ -46,3 +48,10 @@ shows_tree cells root tree edits is s = subst (λ (e : EditedTree). AreShown cel
   shows = λ ns named. s.shown ns named ∙ sym (untouched_shown cells root ns);
   formed = s.formed;
 })
+
+-- edits of a revision can be read
+pub can_read : (rev : ℕ) (cells : List Cell) (edits : EditedTree) → AreEdits rev cells edits → CanReadEdits cells edits
+can_read rev cells edits are = record {
+  root = are.within;
+  touched = record { sound = are.sound; within = λ path here e. (are.touched.held path here e).within };
+}

@@ -80,7 +80,10 @@ fn kind_after(edits: &Edits, cells: &[Cell], path: &Path) -> Result<Option<Kind>
     requires { (rev : ℕ) × AreEdits rev cells.now edits.now }
     ensures { IfOk result (λ kind. kind ≡ kind_after cells.now edits.now path.now) }
 {
-    edits.kind_at(cells, path)
+    match edits.look(cells, path)? {
+        None => Ok(None),
+        Some(place) => Ok(Some(place.node().kind)),
+    }
 }
 
 /// What the changes did to a path, if a node is or was there.
