@@ -13,3 +13,4 @@ pub mod Steps
 pub mod Clearing
 pub mod Gone
 pub mod Deleting
+pub mod Outcomes

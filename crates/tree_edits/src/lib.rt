@@ -1,8 +1,10 @@
 //! Changes of a commit as edits over a table of shared nodes, which stays as it is.
 #![tactic(auto)]
 
+mod applying;
 mod changes;
 mod copies;
+mod copying;
 mod edits;
 mod hanging;
 mod held;
