@@ -1,7 +1,4 @@
-ghost use Rattle.std.specs.Prelude.{◌≡◌, ◌<◌, [], true, Some, IfOk, IsTrue, is_some, length, ℕ, ◌≤◌, ◌+◌};
-ghost use Rattle.node_table.specs.Steps.{IsSource};
-ghost use Rattle.tree_edits.specs.AreEdits.{AreEdits};
-ghost use Rattle.tree_edits.specs.Applied.{Applies};
+ghost use Rattle.std.specs.Prelude.{◌≡◌, ◌<◌, [], true, Some, IfOk, IsTrue, is_some, length};
 ghost use Rattle.std.specs.FinMap.{is_sorted};
 ghost use Rattle.std.specs.Ordering.{nat_cmp};
 ghost use Rattle.std.specs.Cmp.Lexicographic.{slice_cmp};
@@ -20,7 +17,7 @@ use crate::store::Store;
 use crate::touch::Touch;
 use dsv_base::{NoMemory, Path, Rev};
 use node_table::{below_root, cell_of};
-use rev_nodes::{Cell, Change, NodeId, Unfit};
+use rev_nodes::{Cell, NodeId, Unfit};
 use std::alloc::Global;
 use std::marker::Model;
 
@@ -126,25 +123,6 @@ impl Edits {
         ensures { IfOk result (λ all. all.items ≡ self.now.touched) }
     {
         self.touched.touches(alloc)
-    }
-
-    /// A stand-in.
-    pub fn apply(
-        &mut self,
-        _alloc: Global,
-        cells: &[Cell],
-        from: Option<NodeId>,
-        change: &Change,
-        rev: Rev,
-    ) -> Result<(), Unfit>
-        requires are { AreEdits rev cells.now self.old }
-        requires from { (id : ℕ) → from ≡ Some id → IsSource rev cells.now id }
-        ensures are { AreEdits rev cells.now self.new }
-        ensures says { Applies rev change.now cells.now self.old self.new from result }
-        ensures few { length self.new.touched ≤ length self.old.touched + 65 }
-    {
-        let _root = self.root;
-        Err(Unfit::NoMemory)
     }
 
     /// What stands at a path, if anything does. Its one error is want of memory.
