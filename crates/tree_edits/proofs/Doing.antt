@@ -35,11 +35,11 @@ few_in r cells leaf (n ∷ ns) touched path (Some h) new sorted e =
 -- ---- touched paths and what is held there
 
 module _ (r : ℕ) (cells : List Cell) (touched : Touched) (a : AreTouched r cells touched) where
-  record IsAbove (path : List ℕ) : Type 0 where
-    above : Held
-    there : touched_at touched path ≡ Some (Some above)
+  pub record IsAbove (path : List ℕ) : Type 0 where
+    pub above : Held
+    pub there : touched_at touched path ≡ Some (Some above)
 
-  above_touched : (ns : List Name) (n : Name) (ds : List Name) (path : List ℕ) (edit : Option Held) → are_names (n ∷ ns) ≡ true → are_names ds ≡ true → path ≡ path_at root_text ds → touched_at touched (path_at path (n ∷ ns)) ≡ Some edit → IsAbove path
+  pub above_touched : (ns : List Name) (n : Name) (ds : List Name) (path : List ℕ) (edit : Option Held) → are_names (n ∷ ns) ≡ true → are_names ds ≡ true → path ≡ path_at root_text ds → touched_at touched (path_at path (n ∷ ns)) ≡ Some edit → IsAbove path
   above_touched [] n ds path edit k d is e =
       let p = and_parts (is_component n) true k in
       let x = (a.placed (join_text path n) edit e).parents path (ap (λ t. parent_text (join_text t n)) is ∙ parent_at ds n d p.0 ∙ ap Some (sym is)) in
@@ -84,7 +84,7 @@ module _ (r : ℕ) (cells : List Cell) (old new : EditedTree) (are : AreEdits r 
   pub few_done : length new.touched ≤ length old.touched + 65
   few_done = let f = few_in r cells leaf way old.touched root_text (held_root cells old) new.touched are.touched.sorted hung in let n = (names_of_path path one).few in omega (arith, f, n)
 
-  root_touched : (edit : Option Held) → touched_at old.touched root_text ≡ Some edit → edit ≡ held_root cells old
+  pub root_touched : (edit : Option Held) → touched_at old.touched root_text ≡ Some edit → edit ≡ held_root cells old
   root_touched edit e = sym (ap (λ o. or_touched o (Some (held_in cells (cell_at cells old.root).line old.root))) e)
 
   root_place : IsPlace r cells old.touched root_text (held_root cells old)
@@ -122,7 +122,7 @@ module _ (r : ℕ) (cells : List Cell) (old new : EditedTree) (are : AreEdits r 
     touched = kept_in cells are.sound r leaf way [] old.touched root_text (held_root cells old) new.touched named refl refl (ap is_path path_is ∙ one) are.touched root_place hung ends;
   }
 
-  below_kept : (m : Name) (ms : List Name) → are_names (m ∷ ms) ≡ true → touched_at new.touched (path_at (path_at root_text way) (m ∷ ms)) ≡ touched_at old.touched (path_at (path_at root_text way) (m ∷ ms))
+  pub below_kept : (m : Name) (ms : List Name) → are_names (m ∷ ms) ≡ true → touched_at new.touched (path_at (path_at root_text way) (m ∷ ms)) ≡ touched_at old.touched (path_at (path_at root_text way) (m ∷ ms))
   below_kept m ms k =
       let p = and_parts (is_component m) (are_names ms) k in
       let l = longer-join (path_at root_text way) m p.0 in

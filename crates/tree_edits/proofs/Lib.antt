@@ -14,3 +14,4 @@ pub mod Clearing
 pub mod Gone
 pub mod Deleting
 pub mod Outcomes
+pub mod Grafts

@@ -55,7 +55,7 @@ module _ (r : ℕ) (cells : List Cell) (sound : IsSound cells) (leaf : Option He
       by (q ∷ qs) k some none = not_hung r cells sound leaf old tree is q qs k (parent_stands tree is.formed q qs k some) none
 
   -- where nothing stands, the answer tells of its parent
-  parent_none : at path tree ≡ None → hung_at r cells leaf old (names_in path) ≡ None → has_parent path tree ≡ false
+  pub parent_none : at path tree ≡ None → hung_at r cells leaf old (names_in path) ≡ None → has_parent path tree ≡ false
   parent_none absent none = subst (λ p. has_parent p tree ≡ false) (names_of_path path one).path (by (names_in path) (names_of_path path one).names none)
     where
       by : (ws : List Name) → are_names ws ≡ true → hung_at r cells leaf old ws ≡ None → has_parent (path_at root_text ws) tree ≡ false

@@ -9,6 +9,7 @@ use Rattle.std.specs.Cmp.Lexicographic.{slice_cmp}
 use Rattle.dsv_base.specs.Paths.{join_text, is_under, root_text}
 use Rattle.dsv_base.specs.declared.prop.Prop.{Prop}
 use Rattle.rev_nodes.specs.declared.cell.Cell.{Cell}
+use Rattle.rev_nodes.specs.declared.node.Node.{Node}
 use Rattle.rev_nodes.specs.declared.unfit.Unfit.{Unfit}
 use Rattle.rev_nodes.specs.declared.unfit.Unfit.TheVariants.{NoParent}
 use Rattle.rev_nodes.specs.Fitting.{is_want}
@@ -27,6 +28,10 @@ with_text r text here = record here { node = record here.node { text = text; cre
 -- the same with other properties
 abbrev pub with_props : ℕ → List Prop → Held → Held
 with_props r props here = record here { node = record here.node { props = props; created = r } }
+
+-- what a copy of a node of the table puts at a path: it begins there, from its source, over what stands in it by the table
+abbrev pub copied_held : ℕ → List ℕ → ℕ → ℕ → Node → Held
+copied_held r source rev id node = record { node = record node { created = r }; line = record { since = r; source = Some (source, rev) }; under = Some id }
 
 -- what stands one name below a place at a path
 abbrev pub child_held : List Cell → Touched → List ℕ → Name → Held → Option Held
