@@ -11,3 +11,4 @@ pub mod ReadRevisions
 pub mod RevisionBack
 pub mod ScriptAloud
 pub mod ScriptRows
+pub mod WholeScript
