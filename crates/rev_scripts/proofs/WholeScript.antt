@@ -43,5 +43,5 @@ whole_script bytes name uuid rest zeroth line text trees T result view h z is gi
     let u : trees.uuid ≡ uuid = ap (λ (r : Repository). r.uuid) is in
     let rs : revisions_of trees ≡ first_revision zeroth ∷ [] = ap (λ (r : Repository). r.revisions) is in
     let same : with_revisions trees (revisions_from (length text) (revisions_of trees) line text) ≡ behind_zeroth name uuid zeroth line text =
-        λ i. revisions_from (length text) (rs i) line text >>= (λ revisions. let r : Result Repository ScriptFault = Ok (record { name = n i; uuid = u i; revisions = revisions }) in r) in
+    λ i. revisions_from (length text) (rs i) line text >>= (λ revisions. let r : Result Repository ScriptFault = Ok (record { name = n i; uuid = u i; revisions = revisions }) in r) in
     subst (GivesBy view wants_memory result) (same ∙ sym (whole_is bytes name uuid rest zeroth line text h z)) gives

@@ -29,15 +29,15 @@ returns-in-End-clause-told c =
 pub items-preserved : goal.items-preserved
 items-preserved c = elim c.match-item.branch [
   | in-Prop+in_ok-add_prop-in-Prop w ↦ record {
-      read = rw (w.told-is, w.in_ok-add_prop-in-Prop.ensures, c.line_after-next.ensures.value) (prop_read c.args.number c.items.told c.items.begins c.items.rest c.in_ok-item.after _ w.in-Prop.prop c.items.invariant.read (rw w.in-Prop.is at c.in_ok-item.ensures.value) c.in_ok-item.ensures.shorter);
-      room = omega (arith, c.line_after-next.ensures.room, c.items.invariant.room);
-      shorter = omega (arith, c.in_ok-item.ensures.shorter, c.items.invariant.shorter);
-      few = rw (w.told-is, w.in_ok-add_prop-in-Prop.ensures) (omega (arith, c.in_ok-item.ensures.shorter, c.items.invariant.few));
-    }
+    read = rw (w.told-is, w.in_ok-add_prop-in-Prop.ensures, c.line_after-next.ensures.value) (prop_read c.args.number c.items.told c.items.begins c.items.rest c.in_ok-item.after _ w.in-Prop.prop c.items.invariant.read (rw w.in-Prop.is at c.in_ok-item.ensures.value) c.in_ok-item.ensures.shorter);
+    room = omega (arith, c.line_after-next.ensures.room, c.items.invariant.room);
+    shorter = omega (arith, c.in_ok-item.ensures.shorter, c.items.invariant.shorter);
+    few = rw (w.told-is, w.in_ok-add_prop-in-Prop.ensures) (omega (arith, c.in_ok-item.ensures.shorter, c.items.invariant.few));
+  }
   | in-Change+in_ok-add_change-in-Change w ↦ record {
-      read = rw (w.told-is, w.in_ok-add_change-in-Change.ensures, c.line_after-next.ensures.value) (change_read c.args.number c.items.told c.items.begins c.items.rest c.in_ok-item.after _ w.in-Change.change c.items.invariant.read (rw w.in-Change.is at c.in_ok-item.ensures.value) c.in_ok-item.ensures.shorter);
-      room = omega (arith, c.line_after-next.ensures.room, c.items.invariant.room);
-      shorter = omega (arith, c.in_ok-item.ensures.shorter, c.items.invariant.shorter);
-      few = rw (w.told-is, w.in_ok-add_change-in-Change.ensures) (one_taken c.items.told.changes w.in-Change.change (length c.in_ok-item.after) (length c.items.rest) _ c.in_ok-item.ensures.shorter c.items.invariant.few);
-    }
+    read = rw (w.told-is, w.in_ok-add_change-in-Change.ensures, c.line_after-next.ensures.value) (change_read c.args.number c.items.told c.items.begins c.items.rest c.in_ok-item.after _ w.in-Change.change c.items.invariant.read (rw w.in-Change.is at c.in_ok-item.ensures.value) c.in_ok-item.ensures.shorter);
+    room = omega (arith, c.line_after-next.ensures.room, c.items.invariant.room);
+    shorter = omega (arith, c.in_ok-item.ensures.shorter, c.items.invariant.shorter);
+    few = rw (w.told-is, w.in_ok-add_change-in-Change.ensures) (one_taken c.items.told.changes w.in-Change.change (length c.in_ok-item.after) (length c.items.rest) _ c.in_ok-item.ensures.shorter c.items.invariant.few);
+  }
 ]
