@@ -161,7 +161,7 @@ fn node_reply(
     let node = present.trees().node(id);
     match node.kind {
         Kind::File => {
-            let text = node.text.copy()?;
+            let text = node.text.bytes(alloc)?;
             Ok(content_reply(alloc, media_type(node.props.get()), text)?)
         }
         Kind::Dir => {

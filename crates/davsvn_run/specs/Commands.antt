@@ -3,7 +3,6 @@ use Rattle.std.specs.Prelude.{ℕ, Bool, true, false, not, ◌||◌, List, [], �
 use Rattle.std.specs.Option.{option_map}
 use Rattle.std.specs.Str.{bytes_eq}
 use Rattle.dsv_base.specs.Names.{is_user_name, is_repository_name}
-use Rattle.dsv_base.specs.Options.{◌>>=◌}
 use Rattle.dsv_base.specs.Paths.{is_path}
 use Rattle.authz_file.specs.declared.right.Right.{Right}
 use Rattle.authz_file.specs.declared.right.Right.TheVariants.{No, Read, Write}

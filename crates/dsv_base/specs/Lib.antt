@@ -1,5 +1,4 @@
 pub mod Gives
-pub mod Options
 pub mod Paths
 pub mod Escapes
 pub mod Names

@@ -2,13 +2,13 @@
 -- under the scheme Basic (RFC 7617).
 use Rattle.std.specs.Prelude.{ℕ, ⊤, IsTrue, Bool, ◌&&◌, List, [], ◌∷◌, codes, Option, None, Some, if◌then◌else◌}
 use Rattle.std.specs.List.{position_from}
+use Rattle.std.specs.Option.{option_and_then}
 use Rattle.std.specs.Str.{bytes_eq, str_eq_ignore_ascii_case}
 use Rattle.base64.specs.Engines.{standard}
 use Rattle.base64.specs.GeneralPurpose.{decoded_of}
 use Rattle.dsv_base.specs.declared.field.Field.{Field}
 use Rattle.dsv_base.specs.Lines.{cut_at}
 use Rattle.dsv_base.specs.Names.{is_user_name}
-use Rattle.dsv_base.specs.Options.{◌>>=◌}
 use Rattle.http_front.specs.declared.login.Login.{Login}
 use Rattle.http_front.specs.declared.login.Login.TheVariants.{Nobody, User, Wrong}
 use Rattle.http_front.specs.declared.user.User as user
@@ -24,11 +24,11 @@ after_basic words = if str_eq_ignore_ascii_case words.0 (codes "basic") then Som
 
 -- what stands after the scheme Basic and one space
 abbrev pub token_of : List ℕ → Option (List ℕ)
-token_of value = cut_at 32 value >>= after_basic
+token_of value = option_and_then after_basic (cut_at 32 value)
 
 -- name and password: the token is strict base64 (RFC 4648, section 4) of both with the first colon between
 abbrev pub credentials_of : List ℕ → Option (List ℕ × List ℕ)
-credentials_of value = token_of value >>= decoded_of standard >>= cut_at 58
+credentials_of value = option_and_then (cut_at 58) (option_and_then (decoded_of standard) (token_of value))
 
 -- the user has this name and this password
 abbrev pub has_credentials : List ℕ → List ℕ → user.User → Bool

@@ -12,7 +12,7 @@ use Rattle.rev_nodes.specs.declared.entry.Entry.{Entry}
 use Rattle.rev_nodes.proofs.Forming.{tied}
 use Rattle.rev_nodes.proofs.Search.{find_here, find_gap, comparisons_rise}
 use Rattle.node_table.specs.Ways.{Name}
-use Rattle.node_table.specs.Tables.{pair, child, are_in_order, IsEntryAt}
+use Rattle.node_table.specs.Tables.{pair, child, entries_rise, IsEntryAt}
 
 -- an entry of no directory, for what stands past the end
 abbrev pub no_entry : Entry
@@ -33,7 +33,7 @@ get_or-any [] i d e h = absurd (omega arith)
 get_or-any (x ∷ xs) zero d e h = refl
 get_or-any (x ∷ xs) (suc i) d e h = get_or-any xs i d e (omega arith)
 
-module _ (entries : List Entry) (name : Name) (sorted : T (are_in_order entries)) where
+module _ (entries : List Entry) (name : Name) (sorted : T (entries_rise entries)) where
   rises : IsNonDecreasingBy (λ (e : Entry). ordering_index (slice_cmp nat_cmp e.name name)) entries
   rises = IsNonDecreasingBy-from_default (λ (e : Entry). ordering_index (slice_cmp nat_cmp e.name name)) entries no_entry (λ i j le within. elim (cases_lt i j) [
     | inl before ↦ rw (get_or-pairs entries i no_entry, get_or-pairs entries j no_entry) at (comparisons_rise (slice_cmp nat_cmp) nat_list_cmp_total name (map pair entries) (pair no_entry) sorted i j before (omega (arith, length-pairs entries)))
@@ -62,7 +62,7 @@ module _ (entries : List Entry) (name : Name) (sorted : T (are_in_order entries)
   }
 
 -- the number of each entry is found at its own name
-pub own_entry : (entries : List Entry) → are_in_order entries ≡ true → (k : ℕ) (d : Entry) → k < length entries → child (get_or entries k d).name entries ≡ Some (get_or entries k d).id
+pub own_entry : (entries : List Entry) → entries_rise entries ≡ true → (k : ℕ) (d : Entry) → k < length entries → child (get_or entries k d).name entries ≡ Some (get_or entries k d).id
 own_entry entries sorted k d within =
     find_here (slice_cmp nat_cmp) nat_list_cmp_total (get_or entries k d).name (map pair entries) k (pair d) (subst T (sym sorted) tt) (omega (arith, within, length-pairs entries))
     (ap (λ (e : Name × ℕ). slice_cmp nat_cmp e.0 (get_or entries k d).name) (get_or-pairs entries k d) ∙ tied_itself nat_list_cmp_total (get_or entries k d).name)

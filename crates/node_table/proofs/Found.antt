@@ -5,7 +5,7 @@ use Rattle.dsv_base.specs.Paths.{is_path}
 use Rattle.rev_nodes.specs.declared.cell.Cell.{Cell}
 use Rattle.rev_nodes.specs.Trees.{TreeNode, Tree, at}
 use Rattle.node_table.specs.Ways.{Name, names_in}
-use Rattle.node_table.specs.Tables.{cell_at, reach, Spot, walk, node_at}
+use Rattle.node_table.specs.Tables.{cell_at, reach, Spot, walk, spot_node}
 use Rattle.node_table.specs.Rebuilt.{root_spot}
 use Rattle.node_table.specs.Shown.{ShowsAll}
 use Rattle.node_table.proofs.PathNames.{names_of_path}
@@ -42,12 +42,12 @@ module _ (cells : List Cell) (root : ℕ) (tree : Tree) (shown : ShowsAll cells 
         let n = names_of_path path one in
         let s = spot_of cells root (names_in path) id e in
         record {
-          found = node_at cells s.spot;
-          at_path = ap (λ p. at p tree) (sym n.path) ∙ shown (names_in path) n.names ∙ ap (option_map (node_at cells)) s.is;
+          found = spot_node cells s.spot;
+          at_path = ap (λ p. at p tree) (sym n.path) ∙ shown (names_in path) n.names ∙ ap (option_map (spot_node cells)) s.is;
           node = ap (λ (k : ℕ). (cell_at cells k).node) s.id_is;
         }
 
     pub none_at : reach cells (Some root) (names_in path) ≡ None → at path tree ≡ None
     none_at e =
         let n = names_of_path path one in
-        ap (λ p. at p tree) (sym n.path) ∙ shown (names_in path) n.names ∙ ap (option_map (node_at cells)) (no_spot cells root (names_in path) e)
+        ap (λ p. at p tree) (sym n.path) ∙ shown (names_in path) n.names ∙ ap (option_map (spot_node cells)) (no_spot cells root (names_in path) e)

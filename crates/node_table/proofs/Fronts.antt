@@ -8,7 +8,8 @@ use Rattle.std.proofs.lemmas.Slice.Eq.{starts_is}
 use Rattle.dsv_base.specs.Paths.{is_component, is_under, root_text, components, front_of, join_text}
 use Rattle.dsv_base.proofs.Joins.{component_slash, component_some, components-append, components-one}
 use Rattle.rev_nodes.proofs.Below.{same_from, equal_itself, differ}
-use Rattle.node_table.specs.Ways.{Name, are_names, path_at, is_front, names_in}
+use Rattle.rev_nodes.specs.Subtrees.{path_below}
+use Rattle.node_table.specs.Ways.{Name, are_names, is_front, names_in}
 use Rattle.node_table.proofs.Ways.{path_at-append, join-front, front-join, under-names}
 
 -- names, with a slash between each two
@@ -23,7 +24,7 @@ joined-components n (m ∷ ms) h =
     let p = and_parts (is_component n) (are_names (m ∷ ms)) h in
     components-append n (joined (m ∷ ms)) ∙ ap (λ c. c ++ components (joined (m ∷ ms))) (components-one n (component_slash n p.0)) ∙ ap (λ c. n ∷ c) (joined-components m ms p.1)
 
-pub path-joined : (path : List ℕ) (n : Name) (ns : List Name) → are_names (n ∷ ns) ≡ true → path_at path (n ∷ ns) ≡ front_of path ++ 47 ∷ joined (n ∷ ns)
+pub path-joined : (path : List ℕ) (n : Name) (ns : List Name) → are_names (n ∷ ns) ≡ true → path_below path (n ∷ ns) ≡ front_of path ++ 47 ∷ joined (n ∷ ns)
 path-joined path n [] h = join-front path n
 path-joined path n (m ∷ ms) h =
     let p = and_parts (is_component n) (are_names (m ∷ ms)) h in
@@ -39,11 +40,11 @@ names_in-slash : (text : List ℕ) → (text ≡ [] → ⊥) → names_in (47 �
 names_in-slash [] some = absurd (some refl)
 names_in-slash (b ∷ bs) some = refl
 
-pub names-back : (ns : List Name) → are_names ns ≡ true → names_in (path_at root_text ns) ≡ ns
+pub names-back : (ns : List Name) → are_names ns ≡ true → names_in (path_below root_text ns) ≡ ns
 names-back [] h = refl
 names-back (n ∷ ns) h = ap names_in (path-joined root_text n ns h) ∙ names_in-slash (joined (n ∷ ns)) (some-joined n ns h) ∙ joined-components n ns h
 
-pub one-way : (ms ns : List Name) → are_names ms ≡ true → are_names ns ≡ true → path_at root_text ms ≡ path_at root_text ns → ms ≡ ns
+pub one-way : (ms ns : List Name) → are_names ms ≡ true → are_names ns ≡ true → path_below root_text ms ≡ path_below root_text ns → ms ≡ ns
 one-way ms ns h k e = sym (names-back ms h) ∙ ap names_in e ∙ names-back ns k
 
 pub front-append : (ms ns : List Name) → is_front ms (ms ++ ns) ≡ true
@@ -66,19 +67,19 @@ names-rest : (ms ns : List Name) → are_names (ms ++ ns) ≡ true → are_names
 names-rest [] ns h = h
 names-rest (m ∷ ms) ns h = names-rest ms ns (and_parts (is_component m) (are_names (ms ++ ns)) h).1
 
-pub not-root : (n : Name) (ns : List Name) → are_names (n ∷ ns) ≡ true → bytes_eq (path_at root_text (n ∷ ns)) root_text ≡ false
+pub not-root : (n : Name) (ns : List Name) → are_names (n ∷ ns) ≡ true → bytes_eq (path_below root_text (n ∷ ns)) root_text ≡ false
 not-root n ns h = differ _ root_text (λ e. some-joined n ns h (ap (drop 1) (sym (path-joined root_text n ns h) ∙ e)))
 
-pub front_no : (qs ns : List Name) → are_names qs ≡ true → are_names ns ≡ true → is_under (path_at root_text ns) (path_at root_text qs) ≡ true → is_front qs ns ≡ false → ⊥
+pub front_no : (qs ns : List Name) → are_names qs ≡ true → are_names ns ≡ true → is_under (path_below root_text ns) (path_below root_text qs) ≡ true → is_front qs ns ≡ false → ⊥
 unfolding is_under
 front_no [] ns h k u e = cc e
 front_no (q ∷ qs) ns h k u e = pick (bytes_eq p path) (starts_with nat_eq p (path ++ 47 ∷ [])) refl refl (sym (ap (λ b. (bytes_eq p path || b) || starts_with nat_eq p (path ++ 47 ∷ [])) (not-root q qs h) ∙ or_no (bytes_eq p path) _) ∙ u)
   where
     p : List ℕ
-    p = path_at root_text ns
+    p = path_below root_text ns
 
     path : List ℕ
-    path = path_at root_text (q ∷ qs)
+    path = path_below root_text (q ∷ qs)
 
     or_no : (a b : Bool) → ((a || false) || b) ≡ (a || b)
     or_no true b = refl
@@ -100,12 +101,12 @@ front_no (q ∷ qs) ns h k u e = pick (bytes_eq p path) (starts_with nat_eq p (p
         against (components rest) (sym (names-back ns k) ∙ ap names_in text ∙ names_in-slash (joined (q ∷ qs) ++ 47 ∷ rest) (λ z. no_text (joined (q ∷ qs)) rest z) ∙ components-append (joined (q ∷ qs)) rest ∙ ap (λ c. c ++ components rest) (joined-components q qs h))
     pick false false s b some = cc some
 
-pub under-front : (qs ns : List Name) → are_names qs ≡ true → are_names ns ≡ true → is_under (path_at root_text ns) (path_at root_text qs) ≡ is_front qs ns
+pub under-front : (qs ns : List Name) → are_names qs ≡ true → are_names ns ≡ true → is_under (path_below root_text ns) (path_below root_text qs) ≡ is_front qs ns
 under-front qs ns h k = by (is_front qs ns) refl
   where
-    yes_under : IsMore qs ns → is_under (path_at root_text ns) (path_at root_text qs) ≡ true
-    yes_under m = ap (λ t. is_under t (path_at root_text qs)) (ap (path_at root_text) m.is ∙ path_at-append root_text qs m.more) ∙ under-names (path_at root_text qs) m.more (names-rest qs m.more (subst (λ xs. are_names xs ≡ true) m.is k))
+    yes_under : IsMore qs ns → is_under (path_below root_text ns) (path_below root_text qs) ≡ true
+    yes_under m = ap (λ t. is_under t (path_below root_text qs)) (ap (path_below root_text) m.is ∙ path_at-append root_text qs m.more) ∙ under-names (path_below root_text qs) m.more (names-rest qs m.more (subst (λ xs. are_names xs ≡ true) m.is k))
 
-    by : (b : Bool) → is_front qs ns ≡ b → is_under (path_at root_text ns) (path_at root_text qs) ≡ b
+    by : (b : Bool) → is_front qs ns ≡ b → is_under (path_below root_text ns) (path_below root_text qs) ≡ b
     by true e = yes_under (front-more qs ns e)
     by false e = false_from_ne_true _ (λ u. front_no qs ns h k u e)

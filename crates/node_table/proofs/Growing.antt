@@ -9,7 +9,7 @@ use Rattle.rev_nodes.specs.Trees.{TreeNode, is_dir_kind}
 use Rattle.rev_nodes.specs.declared.cell.Cell.{Cell}
 use Rattle.node_table.specs.Ways.{Name}
 use Rattle.node_table.specs.Heights.{height_below, higher}
-use Rattle.node_table.specs.Tables.{are_in_order, height_over, cell_at, no_cell, child, child_in, reach, Spot, spot_in, below_line, step, walk, node_at, seen, IsCell, IsSound}
+use Rattle.node_table.specs.Tables.{entries_rise, height_over, cell_at, no_cell, child, child_in, reach, Spot, spot_in, below_line, one_down, walk, spot_node, seen, IsCell, IsSoundTable}
 use Rattle.node_table.proofs.EntriesFound.{own_entry}
 
 pub cell_at-kept : (cells more : List Cell) (id : ℕ) → id < length cells → cell_at (cells ++ more) id ≡ cell_at cells id
@@ -45,13 +45,13 @@ reach_none cells (n ∷ ns) = reach_none cells ns
 pub walk-reach : (cells : List Cell) (ns : List Name) (o : Option Spot) → option_map (λ (s : Spot). s.id) (walk cells o ns) ≡ reach cells (option_map (λ (s : Spot). s.id) o) ns
 walk-reach cells [] o = refl
 walk-reach cells (n ∷ ns) None = ap (option_map (λ (s : Spot). s.id)) (walk_none cells ns) ∙ sym (reach_none cells ns)
-walk-reach cells (n ∷ ns) (Some s) = walk-reach cells ns (step cells n s) ∙ ap (λ o. reach cells o ns) (ids (child_in cells n s.id))
+walk-reach cells (n ∷ ns) (Some s) = walk-reach cells ns (one_down cells n s) ∙ ap (λ o. reach cells o ns) (ids (child_in cells n s.id))
   where
     ids : (o : Option ℕ) → option_map (λ (t : Spot). t.id) (option_map (spot_in cells s.line n) o) ≡ o
     ids None = refl
     ids (Some i) = refl
 
-module _ (cells : List Cell) (sound : IsSound cells) where
+module _ (cells : List Cell) (sound : IsSoundTable cells) where
   pub child_within : (n : Name) (id i : ℕ) → id < length cells → child_in cells n id ≡ Some i → i < length cells
   child_within n id i h e = let low = ((sound id).children n i e).lower in omega (arith, low, h)
 
@@ -79,7 +79,7 @@ module _ (cells : List Cell) (sound : IsSound cells) where
         by (Some j) f go = go j (child_within n id j h f)
 
     pub seen-none : (ns : List Name) → seen (cells ++ more) None ns ≡ seen cells None ns
-    seen-none ns = ap (option_map (node_at (cells ++ more))) (walk_none (cells ++ more) ns) ∙ sym (ap (option_map (node_at cells)) (walk_none cells ns))
+    seen-none ns = ap (option_map (spot_node (cells ++ more))) (walk_none (cells ++ more) ns) ∙ sym (ap (option_map (spot_node cells)) (walk_none cells ns))
 
     pub seen-kept : (ns : List Name) (spot : Spot) → spot.id < length cells → seen (cells ++ more) (Some spot) ns ≡ seen cells (Some spot) ns
     seen-kept [] spot h = ap (λ (c : Cell). let t : TreeNode = record { node = c.node; line = spot.line } in Some t) (cell_at-kept cells more spot.id h)
@@ -93,7 +93,7 @@ module _ (cells : List Cell) (sound : IsSound cells) where
 
     pub cell_kept : (id : ℕ) → id < length cells → IsCell cells id → IsCell (cells ++ more) id
     cell_kept id h c = record {
-      sorted = subst (λ (x : Cell). IsTrue (are_in_order x.entries)) (sym (cell_at-kept cells more id h)) c.sorted;
+      sorted = subst (λ (x : Cell). IsTrue (entries_rise x.entries)) (sym (cell_at-kept cells more id h)) c.sorted;
       children = λ n i e.
           let old = c.children n i (sym (child_in-kept n id h) ∙ e) in
           record {
@@ -110,7 +110,7 @@ module _ (cells : List Cell) (sound : IsSound cells) where
 
 pub no_cell_sound : (cells : List Cell) (id : ℕ) → cell_at cells id ≡ no_cell → IsCell cells id
 no_cell_sound cells id e = record {
-  sorted = subst (λ (x : Cell). IsTrue (are_in_order x.entries)) (sym e) refl;
+  sorted = subst (λ (x : Cell). IsTrue (entries_rise x.entries)) (sym e) refl;
   children = λ n i f. absurd (let g = sym (ap (λ (x : Cell). child n x.entries) e) ∙ f in cc g);
   file = λ k. ap (λ (x : Cell). x.entries) e;
   since = subst (λ (x : Cell). x.line.since ≤ x.node.created) (sym e) (omega arith);
@@ -118,7 +118,7 @@ no_cell_sound cells id e = record {
 }
 
 -- one cell more that is so
-pub sound-more : (cells : List Cell) (cell : Cell) → IsSound cells → IsCell (cells ++ cell ∷ []) (length cells) → IsSound (cells ++ cell ∷ [])
+pub sound-more : (cells : List Cell) (cell : Cell) → IsSoundTable cells → IsCell (cells ++ cell ∷ []) (length cells) → IsSoundTable (cells ++ cell ∷ [])
 sound-more cells cell sound new id = elim (cases_lt id (length cells)) [
   | inl low ↦ cell_kept cells sound (cell ∷ []) id low (sound id)
   | inr high ↦ elim (cases_lt (length cells) id) [
@@ -128,7 +128,7 @@ sound-more cells cell sound new id = elim (cases_lt id (length cells)) [
 ]
 
 -- what names lead to was made no later
-pub younger : (cells : List Cell) → IsSound cells → (ns : List Name) (id i : ℕ) → reach cells (Some id) ns ≡ Some i → (cell_at cells i).node.created ≤ (cell_at cells id).node.created
+pub younger : (cells : List Cell) → IsSoundTable cells → (ns : List Name) (id i : ℕ) → reach cells (Some id) ns ≡ Some i → (cell_at cells i).node.created ≤ (cell_at cells id).node.created
 younger cells sound [] id i e = subst (λ k. (cell_at cells k).node.created ≤ (cell_at cells id).node.created) (let s : id ≡ i = cc in s) (omega arith)
 younger cells sound (n ∷ ns) id i e = by (child_in cells n id) refl e (λ j f. younger cells sound ns j i f)
   where

@@ -7,7 +7,7 @@ use Rattle.rev_nodes.specs.declared.entry.Entry.{Entry}
 use Rattle.rev_nodes.specs.declared.height.Height.{Height}
 use Rattle.node_table.specs.Ways.{Name}
 use Rattle.node_table.specs.Heights.{no_height, height_below, higher}
-use Rattle.node_table.specs.Tables.{child_in, cell_at, height_over, reach, IsSound}
+use Rattle.node_table.specs.Tables.{child_in, cell_at, height_over, reach, IsSoundTable}
 use Rattle.node_table.specs.Limits.{fits, AllFit, HasLong}
 use Rattle.node_table.proofs.EntriesFound.{no_entry, own_entry, found_in}
 use Rattle.node_table.proofs.Growing.{reach_none}
@@ -43,7 +43,7 @@ module _ (cells : List Cell) where
         later : IsHigh least es → IsHigh least (e ∷ es)
         later more = record { index = suc more.index; within = let w = more.within in omega (arith, w); high = more.high }
 
-module _ (cells : List Cell) (sound : IsSound cells) where
+module _ (cells : List Cell) (sound : IsSoundTable cells) where
   abbrev entries_at : ℕ → List Entry
   entries_at id = (cell_at cells id).entries
 

@@ -9,8 +9,9 @@ use Rattle.rev_nodes.specs.declared.line.Line.{Line}
 use Rattle.rev_nodes.specs.Trees.{TreeNode, Tree, at}
 use Rattle.rev_nodes.specs.SoundNodes.{is_from_path, HasSoundNode}
 use Rattle.rev_nodes.proofs.NodesSound.{sound-found}
-use Rattle.node_table.specs.Ways.{Name, are_names, path_at, names_in}
-use Rattle.node_table.specs.Tables.{below_line, cell_at, child_in, Spot, spot_in, walk, node_at, IsSound}
+use Rattle.rev_nodes.specs.Subtrees.{path_below}
+use Rattle.node_table.specs.Ways.{Name, are_names, names_in}
+use Rattle.node_table.specs.Tables.{below_line, cell_at, child_in, Spot, spot_in, walk, spot_node, IsSoundTable}
 use Rattle.node_table.specs.Rebuilt.{root_spot}
 use Rattle.node_table.specs.Shown.{IsShown}
 use Rattle.node_table.specs.Lines.{line_seen, ComeFromPaths}
@@ -49,7 +50,7 @@ module _ (cells : List Cell) (id : ℕ) (line : Line) (n : Name) where
 -- ---- by the tree that is shown
 
 -- names that lead somewhere are names of a path
-pub names_led : (cells : List Cell) → IsSound cells → (ns : List Name) (spot s : Spot) → walk cells (Some spot) ns ≡ Some s → are_names ns ≡ true
+pub names_led : (cells : List Cell) → IsSoundTable cells → (ns : List Name) (spot s : Spot) → walk cells (Some spot) ns ≡ Some s → are_names ns ≡ true
 names_led cells sound [] spot s e = refl
 names_led cells sound (n ∷ ns) spot s e = by (child_in cells n spot.id) refl e (λ next g. names_led cells sound ns next s g)
   where
@@ -59,10 +60,10 @@ names_led cells sound (n ∷ ns) spot s e = by (child_in cells n spot.id) refl e
 
 module _ (cells : List Cell) (root : ℕ) (tree : Tree) (is : IsShown cells root tree) where
   -- a tree of sound nodes has lines that began at paths
-  pub come_from_paths : IsSound cells → (r : ℕ) → All (HasSoundNode r) tree → ComeFromPaths cells (root_spot cells root)
+  pub come_from_paths : IsSoundTable cells → (r : ℕ) → All (HasSoundNode r) tree → ComeFromPaths cells (root_spot cells root)
   come_from_paths sound r nodes ns s w =
-      let there : at (path_at root_text ns) tree ≡ Some (node_at cells s) = is.shown ns (names_led cells sound ns (root_spot cells root) s w) ∙ ap (option_map (node_at cells)) w in
-      (sound-found r (path_at root_text ns) tree (node_at cells s) nodes there).path
+      let there : at (path_below root_text ns) tree ≡ Some (spot_node cells s) = is.shown ns (names_led cells sound ns (root_spot cells root) s w) ∙ ap (option_map (spot_node cells)) w in
+      (sound-found r (path_below root_text ns) tree (spot_node cells s) nodes there).path
 
   -- the line that is seen at a path is that of the tree
   pub line_is : (path : List ℕ) → is_path path ≡ true → line_seen cells (root_spot cells root) (names_in path) ≡ option_map (λ (found : TreeNode). found.line) (at path tree)
@@ -72,6 +73,6 @@ module _ (cells : List Cell) (root : ℕ) (tree : Tree) (is : IsShown cells root
       ∙ ap (option_map (λ (found : TreeNode). found.line)) (sym (is.shown (names_in path) n.names))
       ∙ ap (λ p. option_map (λ (found : TreeNode). found.line) (at p tree)) n.path
     where
-      by : (o : Option Spot) → option_map (λ (s : Spot). s.line) o ≡ option_map (λ (found : TreeNode). found.line) (option_map (node_at cells) o)
+      by : (o : Option Spot) → option_map (λ (s : Spot). s.line) o ≡ option_map (λ (found : TreeNode). found.line) (option_map (spot_node cells) o)
       by None = refl
       by (Some s) = refl

@@ -22,8 +22,9 @@ use Rattle.rev_nodes.proofs.Forming.{tied}
 use Rattle.rev_nodes.proofs.Search.{find_here}
 use Rattle.rev_nodes.proofs.NodesSound.{at_paths}
 use Rattle.rev_nodes.proofs.EntryNames.{StandsAtPath, entries-are}
-use Rattle.node_table.specs.Ways.{Name, are_names, path_at, names_in}
-use Rattle.node_table.specs.Tables.{cell_at, child_in, reach, walk, node_at, IsSound}
+use Rattle.rev_nodes.specs.Subtrees.{path_below}
+use Rattle.node_table.specs.Ways.{Name, are_names, names_in}
+use Rattle.node_table.specs.Tables.{cell_at, child_in, reach, walk, spot_node, IsSoundTable}
 use Rattle.node_table.specs.Rebuilt.{root_spot}
 use Rattle.node_table.specs.Shown.{IsShown}
 use Rattle.node_table.specs.Numbers.{number_at, numbered_place, numbered}
@@ -121,18 +122,18 @@ module _ (cells : List Cell) (root : ℕ) (tree : Tree) (is : IsShown cells root
 
   -- ---- the entries of a cell
 
-  module _ (sound : IsSound cells) (sorted : in_order tree ≡ true) where
-    pub entries_led : (ns : List Name) → are_names ns ≡ true → (id : ℕ) → reach cells (Some root) ns ≡ Some id → (cell_at cells id).entries ≡ entries_in (path_at root_text ns) (numbered cells root tree)
+  module _ (sound : IsSoundTable cells) (sorted : in_order tree ≡ true) where
+    pub entries_led : (ns : List Name) → are_names ns ≡ true → (id : ℕ) → reach cells (Some root) ns ≡ Some id → (cell_at cells id).entries ≡ entries_in (path_below root_text ns) (numbered cells root tree)
     entries_led ns named id led =
-        entries-are (path_at root_text ns) directory (numbered cells root tree)
+        entries-are (path_below root_text ns) directory (numbered cells root tree)
         (All-map StandsAtPath (numbered_place cells root) tree (at_paths tree is.formed))
         (subst T (sym (sorted-numbered cells root tree ∙ sorted)) tt)
         (cell_at cells id).entries (subst T (sym (sound id).sorted) tt)
         (λ name other. none name other (child_in cells name id) refl)
         (λ name one. same name one (child_in cells name id) refl)
       where
-        directory : is_path (path_at root_text ns) ≡ true
-        directory = let s = spot_of cells root ns id led in is.formed.paths (path_at root_text ns) (ap is_some (is.shown ns named ∙ ap (option_map (node_at cells)) s.is))
+        directory : is_path (path_below root_text ns) ≡ true
+        directory = let s = spot_of cells root ns id led in is.formed.paths (path_below root_text ns) (ap is_some (is.shown ns named ∙ ap (option_map (spot_node cells)) s.is))
 
         none : (name : Name) → is_component name ≡ false → (o : Option ℕ) → child_in cells name id ≡ o → child_in cells name id ≡ None
         none name other None e = e
@@ -144,27 +145,27 @@ module _ (cells : List Cell) (root : ℕ) (tree : Tree) (is : IsShown cells root
         named_more : (name : Name) → is_component name ≡ true → are_names (ns ++ name ∷ []) ≡ true
         named_more name one = names-append ns (name ∷ []) named (and_from _ _ one refl)
 
-        at_more : (name : Name) → is_component name ≡ true → at (join_text (path_at root_text ns) name) tree ≡ option_map (node_at cells) (walk cells (Some (root_spot cells root)) (ns ++ name ∷ []))
+        at_more : (name : Name) → is_component name ≡ true → at (join_text (path_below root_text ns) name) tree ≡ option_map (spot_node cells) (walk cells (Some (root_spot cells root)) (ns ++ name ∷ []))
         at_more name one = ap (λ p. at p tree) (sym (path_at-more root_text ns name)) ∙ is.shown (ns ++ name ∷ []) (named_more name one)
 
-        found_more : (name : Name) → find (slice_cmp nat_cmp) (join_text (path_at root_text ns) name) (numbered cells root tree) ≡ option_map (with_number cells root (join_text (path_at root_text ns) name)) (at (join_text (path_at root_text ns) name) tree)
-        found_more name = find-numbered cells root (join_text (path_at root_text ns) name) tree
+        found_more : (name : Name) → find (slice_cmp nat_cmp) (join_text (path_below root_text ns) name) (numbered cells root tree) ≡ option_map (with_number cells root (join_text (path_below root_text ns) name)) (at (join_text (path_below root_text ns) name) tree)
+        found_more name = find-numbered cells root (join_text (path_below root_text ns) name) tree
 
-        number_more : (name : Name) → is_component name ≡ true → (i : ℕ) → child_in cells name id ≡ Some i → number_at cells root (join_text (path_at root_text ns) name) ≡ i
+        number_more : (name : Name) → is_component name ≡ true → (i : ℕ) → child_in cells name id ≡ Some i → number_at cells root (join_text (path_below root_text ns) name) ≡ i
         number_more name one i e =
             ap (λ (o : Option ℕ). option_map_or (λ (k : ℕ). k) o 0)
             (ap (λ ms. reach cells (Some root) ms) (ap names_in (sym (path_at-more root_text ns name)) ∙ names-back (ns ++ name ∷ []) (named_more name one))
             ∙ led_more name (Some i) e)
 
-        same : (name : Name) → is_component name ≡ true → (o : Option ℕ) → child_in cells name id ≡ o → child_in cells name id ≡ option_map (λ (p : Numbered). p.id) (find (slice_cmp nat_cmp) (join_text (path_at root_text ns) name) (numbered cells root tree))
+        same : (name : Name) → is_component name ≡ true → (o : Option ℕ) → child_in cells name id ≡ o → child_in cells name id ≡ option_map (λ (p : Numbered). p.id) (find (slice_cmp nat_cmp) (join_text (path_below root_text ns) name) (numbered cells root tree))
         same name one None e =
             e ∙ sym (ap (option_map (λ (p : Numbered). p.id)) (found_more name
-            ∙ ap (option_map (with_number cells root (join_text (path_at root_text ns) name))) (at_more name one ∙ ap (option_map (node_at cells)) (no_spot cells root (ns ++ name ∷ []) (led_more name None e)))))
+            ∙ ap (option_map (with_number cells root (join_text (path_below root_text ns) name))) (at_more name one ∙ ap (option_map (spot_node cells)) (no_spot cells root (ns ++ name ∷ []) (led_more name None e)))))
         same name one (Some i) e =
             let s = spot_of cells root (ns ++ name ∷ []) i (led_more name (Some i) e) in
             e ∙ ap (λ (k : ℕ). Some k) (sym (number_more name one i e))
             ∙ sym (ap (option_map (λ (p : Numbered). p.id)) (found_more name
-            ∙ ap (option_map (with_number cells root (join_text (path_at root_text ns) name))) (at_more name one ∙ ap (option_map (node_at cells)) s.is)))
+            ∙ ap (option_map (with_number cells root (join_text (path_below root_text ns) name))) (at_more name one ∙ ap (option_map (spot_node cells)) s.is)))
 
     -- the same by the path
     pub entries_at : (path : List ℕ) (id : ℕ) → IsLed cells root tree path id → (cell_at cells id).entries ≡ entries_in path (numbered cells root tree)
@@ -184,7 +185,7 @@ node_led cells root tree path id led =
     ap (option_map (λ (p : Numbered). p.here.node)) (find-numbered cells root path tree ∙ ap (option_map (with_number cells root path)) led.there)
     ∙ ap (λ (n : Node). Some n) led.node
 
-pub alike : (cells : List Cell) → IsSound cells → (root : ℕ) (tree : Tree) → IsShown cells root tree → in_order tree ≡ true → (other : ℕ) (others : Tree) → IsShown cells other others → in_order others ≡ true → (path there : List ℕ) (id : ℕ)
+pub alike : (cells : List Cell) → IsSoundTable cells → (root : ℕ) (tree : Tree) → IsShown cells root tree → in_order tree ≡ true → (other : ℕ) (others : Tree) → IsShown cells other others → in_order others ≡ true → (path there : List ℕ) (id : ℕ)
     → option_map (λ (p : Numbered). p.id) (find (slice_cmp nat_cmp) path (numbered cells root tree)) ≡ Some id → option_map (λ (p : Numbered). p.id) (find (slice_cmp nat_cmp) there (numbered cells other others)) ≡ Some id
     → AreAlikeHere cells root tree path other others there
 alike cells sound root tree is sorted other others other_is other_sorted path there id e f =

@@ -5,7 +5,8 @@ use Rattle.std.proofs.lemmas.Bool.{and_parts, eqb-true, leb-true}
 use Rattle.std.proofs.lemmas.Bool.Decides.{nat_tests}
 use Rattle.std.proofs.lemmas.List.Splits.{slice_split-cons_yes, slice_split-cons_no}
 use Rattle.dsv_base.specs.Paths.{is_path, is_slash, is_component, is_below_root, components, root_text}
-use Rattle.node_table.specs.Ways.{Name, are_names, path_at, names_in}
+use Rattle.rev_nodes.specs.Subtrees.{path_below}
+use Rattle.node_table.specs.Ways.{Name, are_names, names_in}
 use Rattle.node_table.proofs.Fronts.{joined, path-joined}
 
 pub record IsSplit (text : List ℕ) : Type 0 where
@@ -41,7 +42,7 @@ joined-split (b ∷ bs) = by (is_slash b) refl (split_some bs) (joined-split bs)
 
 pub record AreNamesOf (text : List ℕ) : Type 0 where
   pub names : are_names (names_in text) ≡ true
-  pub path : path_at root_text (names_in text) ≡ text
+  pub path : path_below root_text (names_in text) ≡ text
   pub few : length (names_in text) ≤ 64
   pub short : length text ≤ 1024
 
@@ -63,5 +64,5 @@ names_of_path (b ∷ c ∷ rest) h =
     other_way : (a b : Bool) → a ≡ false → (a || b) ≡ true → b ≡ true
     other_way a b f h = sym (ap (λ c. c || b) f) ∙ h
 
-    at_names : (text : List ℕ) → IsSplit text → are_names (components text) ≡ true → path_at root_text (components text) ≡ 47 ∷ text
-    at_names text s named = ap (path_at root_text) s.is ∙ path-joined root_text s.first s.rest (ap are_names (sym s.is) ∙ named) ∙ ap (λ ns. 47 ∷ joined ns) (sym s.is) ∙ ap (λ r. 47 ∷ r) (joined-split text)
+    at_names : (text : List ℕ) → IsSplit text → are_names (components text) ≡ true → path_below root_text (components text) ≡ 47 ∷ text
+    at_names text s named = ap (path_below root_text) s.is ∙ path-joined root_text s.first s.rest (ap are_names (sym s.is) ∙ named) ∙ ap (λ ns. 47 ∷ joined ns) (sym s.is) ∙ ap (λ r. 47 ∷ r) (joined-split text)

@@ -12,8 +12,9 @@ use Rattle.rev_nodes.specs.Trees.{TreeNode, Tree, at, is_dir, new_dir}
 use Rattle.rev_nodes.specs.Formed.{has_ordered_props, IsFormed}
 use Rattle.rev_nodes.proofs.Forming.{tied}
 use Rattle.rev_nodes.specs.declared.cell.Cell.{Cell}
-use Rattle.node_table.specs.Ways.{Name, are_names, path_at}
-use Rattle.node_table.specs.Tables.{are_in_order, height_over, cell_at, child, spot_in, node_at, seen, IsSound}
+use Rattle.rev_nodes.specs.Subtrees.{path_below}
+use Rattle.node_table.specs.Ways.{Name, are_names}
+use Rattle.node_table.specs.Tables.{entries_rise, height_over, cell_at, child, spot_in, spot_node, seen, IsSoundTable}
 use Rattle.node_table.specs.Rebuilt.{root_spot}
 use Rattle.node_table.specs.Shown.{IsShown}
 use Rattle.node_table.specs.Steps.{IsBase, new_cell}
@@ -50,16 +51,16 @@ root_formed r = record {
     props true = refl
     props false = refl
 
-pub none_sound : IsSound []
+pub none_sound : IsSoundTable []
 none_sound id = no_cell_sound [] id refl
 
 module _ (r : ℕ) (old : List Cell) (cell : Cell) (cell_is : cell ≡ new_cell r Dir []) where
   here_is : cell_at (old ++ cell ∷ []) (length old) ≡ new_cell r Dir []
   here_is = cell_at-next old cell [] ∙ cell_is
 
-  pub root_sound : IsSound old → IsSound (old ++ cell ∷ [])
+  pub root_sound : IsSoundTable old → IsSoundTable (old ++ cell ∷ [])
   root_sound sound = sound-more old cell sound (record {
-    sorted = subst (λ (c : Cell). IsTrue (are_in_order c.entries)) (sym here_is) refl;
+    sorted = subst (λ (c : Cell). IsTrue (entries_rise c.entries)) (sym here_is) refl;
     children = λ n i e. absurd (let f = ap (λ (c : Cell). child n c.entries) (sym here_is) ∙ e in cc f);
     file = λ k. ap (λ (c : Cell). c.entries) here_is;
     since = subst (λ (c : Cell). c.line.since ≤ c.node.created) (sym here_is) (omega arith);
@@ -75,24 +76,24 @@ module _ (r : ℕ) (old : List Cell) (cell : Cell) (cell_is : cell ≡ new_cell 
       from_line : (ns : List Name) (n : Name) → seen (old ++ cell ∷ []) (option_map (spot_in (old ++ cell ∷ []) (cell_at (old ++ cell ∷ []) (length old)).line n) (child n (cell_at (old ++ cell ∷ []) (length old)).entries)) ns ≡ seen (old ++ cell ∷ []) (Some (root_spot (old ++ cell ∷ []) (length old))) (n ∷ ns)
       from_line ns n = refl
 
-      by : (ns : List Name) → are_names ns ≡ true → at (path_at root_text ns) (root_tree r) ≡ seen (old ++ cell ∷ []) (Some (root_spot (old ++ cell ∷ []) (length old))) ns
+      by : (ns : List Name) → are_names ns ≡ true → at (path_below root_text ns) (root_tree r) ≡ seen (old ++ cell ∷ []) (Some (root_spot (old ++ cell ∷ []) (length old))) ns
       by [] k = ap (λ (c : Cell). let t : TreeNode = record { node = c.node; line = c.line } in Some t) (sym here_is)
       by (n ∷ ns) k =
-          ap (λ b. cond b (Some (new_dir r)) None) (false_from_ne_true _ (λ t. let e : bytes_eq (path_at root_text (n ∷ ns)) root_text ≡ true = ap (λ p. bytes_eq p root_text) (tied (path_at root_text (n ∷ ns)) root_text t) in let f : true ≡ false = sym e ∙ not-root n ns k in cc f))
-          ∙ sym (ap (option_map (node_at (old ++ cell ∷ []))) (walk_none (old ++ cell ∷ []) ns))
+          ap (λ b. cond b (Some (new_dir r)) None) (false_from_ne_true _ (λ t. let e : bytes_eq (path_below root_text (n ∷ ns)) root_text ≡ true = ap (λ p. bytes_eq p root_text) (tied (path_below root_text (n ∷ ns)) root_text t) in let f : true ≡ false = sym e ∙ not-root n ns k in cc f))
+          ∙ sym (ap (option_map (spot_node (old ++ cell ∷ []))) (walk_none (old ++ cell ∷ []) ns))
           ∙ ap (λ (c : Cell). seen (old ++ cell ∷ []) (option_map (spot_in (old ++ cell ∷ []) c.line n) (child n c.entries)) ns) (sym here_is)
           ∙ from_line ns n
 
   pub root_is_shown : (new : List Cell) → new ≡ old ++ cell ∷ [] → (root : ℕ) → root ≡ length old → IsShown new root (root_tree r)
   root_is_shown new new_is root root_is = subst (λ xs. IsShown xs root (root_tree r)) (sym new_is) (subst (λ k. IsShown (old ++ cell ∷ []) k (root_tree r)) (sym root_is) root_shown)
 
-  pub root_is_base : IsSound old → (new : List Cell) → new ≡ old ++ cell ∷ [] → (root : ℕ) → root ≡ length old → IsBase r new root
+  pub root_is_base : IsSoundTable old → (new : List Cell) → new ≡ old ++ cell ∷ [] → (root : ℕ) → root ≡ length old → IsBase r new root
   root_is_base sound new new_is root root_is = subst (λ xs. IsBase r xs root) (sym new_is) (subst (λ k. IsBase r (old ++ cell ∷ []) k) (sym root_is) (record {
     sound = root_sound sound;
     within = let n = length-append old (cell ∷ []) in omega (arith, n);
     young = subst (λ (c : Cell). c.node.created ≤ r) (sym here_is) (omega arith);
   }))
 
-  pub root_kept : {E : Type 0} (result : Result ℕ E) → IsSound old → (new : List Cell) → OnOk result (new ≡ old ++ cell ∷ []) → OnErr result (new ≡ old) → IsSound new
-  root_kept (Ok id) sound new grown same = subst (λ xs. IsSound xs) (sym grown) (root_sound sound)
-  root_kept (Err e) sound new grown same = subst (λ xs. IsSound xs) (sym same) sound
+  pub root_kept : {E : Type 0} (result : Result ℕ E) → IsSoundTable old → (new : List Cell) → OnOk result (new ≡ old ++ cell ∷ []) → OnErr result (new ≡ old) → IsSoundTable new
+  root_kept (Ok id) sound new grown same = subst (λ xs. IsSoundTable xs) (sym grown) (root_sound sound)
+  root_kept (Err e) sound new grown same = subst (λ xs. IsSoundTable xs) (sym same) sound

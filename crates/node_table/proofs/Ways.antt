@@ -7,13 +7,14 @@ use Rattle.std.proofs.lemmas.Bool.{and_parts, and_from}
 use Rattle.dsv_base.specs.Paths.{is_path, is_component, is_slash, is_under, root_text, before_last_slash, parent_text, name_of, front_of, join_text}
 use Rattle.dsv_base.proofs.Joins.{component_some, parent_is_path, join_parent, name_is_component}
 use Rattle.rev_nodes.proofs.Below.{same_from, differ, long, up, under_itself, under_front, behind, IsBehind, root_not_under}
-use Rattle.node_table.specs.Ways.{Name, are_names, path_at}
+use Rattle.rev_nodes.specs.Subtrees.{path_below}
+use Rattle.node_table.specs.Ways.{Name, are_names}
 
-pub path_at-more : (path : List ℕ) (ns : List Name) (n : Name) → path_at path (ns ++ n ∷ []) ≡ join_text (path_at path ns) n
+pub path_at-more : (path : List ℕ) (ns : List Name) (n : Name) → path_below path (ns ++ n ∷ []) ≡ join_text (path_below path ns) n
 path_at-more path [] n = refl
 path_at-more path (m ∷ ms) n = path_at-more (join_text path m) ms n
 
-pub path_at-append : (path : List ℕ) (ms ns : List Name) → path_at path (ms ++ ns) ≡ path_at (path_at path ms) ns
+pub path_at-append : (path : List ℕ) (ms ns : List Name) → path_below path (ms ++ ns) ≡ path_below (path_below path ms) ns
 path_at-append path [] ns = refl
 path_at-append path (m ∷ ms) ns = path_at-append (join_text path m) ms ns
 
@@ -38,7 +39,7 @@ not_root (f ∷ g ∷ gs) n some e = cc
 pub front-join : (path n : List ℕ) → is_component n ≡ true → front_of (join_text path n) ≡ join_text path n
 front-join path n h = ap (λ b. if b then [] else join_text path n) (differ (join_text path n) root_text (λ e. not_root (front_of path) n (some_text n (component_some n h)) (sym (join-front path n) ∙ e)))
 
-names_behind : (path : List ℕ) (n : Name) (ns : List Name) → are_names (n ∷ ns) ≡ true → IsBehind path (path_at path (n ∷ ns))
+names_behind : (path : List ℕ) (n : Name) (ns : List Name) → are_names (n ∷ ns) ≡ true → IsBehind path (path_below path (n ∷ ns))
 names_behind path n [] h = record { rest = n; is = join-front path n }
 names_behind path n (m ∷ ms) h =
     let p = and_parts (is_component n) (are_names (m ∷ ms)) h in
@@ -46,14 +47,14 @@ names_behind path n (m ∷ ms) h =
     record { rest = n ++ 47 ∷ more.rest; is = more.is ∙ ap (λ f. f ++ 47 ∷ more.rest) (front-join path n p.0 ∙ join-front path n) ∙ append_assoc (front_of path) (47 ∷ n) (47 ∷ more.rest) }
 
 -- what names lead to is under the path
-pub under-names : (path : List ℕ) (ns : List Name) → are_names ns ≡ true → is_under (path_at path ns) path ≡ true
+pub under-names : (path : List ℕ) (ns : List Name) → are_names ns ≡ true → is_under (path_below path ns) path ≡ true
 under-names path [] h = under_itself path
 under-names path (n ∷ ns) h = let b = names_behind path n ns h in ap (λ q. is_under q path) b.is ∙ under_front path b.rest
 
 pub record HasWay (path p : List ℕ) : Type 0 where
   pub way : List Name
   pub names : are_names way ≡ true
-  pub is : p ≡ path_at path way
+  pub is : p ≡ path_below path way
 
 module _ (path : List ℕ) (one : is_path path ≡ true) where
   pub other_root : (p : List ℕ) → is_path p ≡ true → is_under p path ≡ true → bytes_eq p path ≡ false → bytes_eq p root_text ≡ false

@@ -13,7 +13,7 @@ fits levels bytes (n ∷ ns) = nat_le 1 levels && (nat_le (suc (length n)) bytes
 abbrev pub AllFit : List Cell → ℕ → ℕ → ℕ → Type 0
 AllFit cells levels bytes id = (ns : List Name) (j : ℕ) → reach cells (Some id) ns ≡ Some j → fits levels bytes ns ≡ true
 
--- one of them is longer
+-- a way that leads somewhere from the number has more names than that, or more bytes
 pub record HasLong (cells : List Cell) (levels bytes id : ℕ) : Type 0 where
   pub names : List Name
   pub end_ : ℕ

@@ -15,6 +15,6 @@ spot_with id line = record { id = id; line = line }
 abbrev pub line_seen : List Cell → Spot → List Name → Option Line
 line_seen cells spot ns = option_map (λ s. s.line) (walk cells (Some spot) ns)
 
--- the line of whatever stands there or below, if it began by a copy, began at a path
+-- whatever names lead to from this place on, itself included, has a line whose source, if it has one, is a path
 abbrev pub ComeFromPaths : List Cell → Spot → Type 0
 ComeFromPaths cells spot = (ns : List Name) (s : Spot) → walk cells (Some spot) ns ≡ Some s → IsTrue (is_from_path s.line.source)

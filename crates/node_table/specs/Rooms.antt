@@ -12,6 +12,6 @@ abbrev pub table_of : List Cell → ℕ → RoomyTable
 table_of cells room = record { cells = cells; room = room }
 
 -- the table has its cells, and no less room
-pub record IsKept (old new : RoomyTable) : Type 0 where
+pub record KeepsCells (old new : RoomyTable) : Type 0 where
   pub cells : new.cells ≡ old.cells
   pub room : old.room ≤ new.room

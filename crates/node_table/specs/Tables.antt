@@ -23,10 +23,10 @@ abbrev pub child : Name → List Entry → Option ℕ
 child n entries = find (slice_cmp nat_cmp) n (map pair entries)
 
 -- the entries rise by their names
-abbrev pub are_in_order : List Entry → Bool
-are_in_order entries = is_sorted (slice_cmp nat_cmp) (map pair entries)
+abbrev pub entries_rise : List Entry → Bool
+entries_rise entries = is_sorted (slice_cmp nat_cmp) (map pair entries)
 
--- the entry of the name stands at this index
+-- this is the index of one of the entries, and the name leads to the number of that
 pub record IsEntryAt (entries : List Entry) (name : Name) (index : ℕ) : Type 0 where
   pub within : index < length entries
   pub found : (d : Entry) → child name entries ≡ Some (slice_index_or entries index d).id
@@ -66,23 +66,23 @@ abbrev pub spot_in : List Cell → Line → Name → ℕ → Spot
 spot_in cells line n id = record { id = id; line = below_line line n (cell_at cells id).line }
 
 -- one name down
-abbrev pub step : List Cell → Name → Spot → Option Spot
-step cells n spot = option_map (spot_in cells spot.line n) (child_in cells n spot.id)
+abbrev pub one_down : List Cell → Name → Spot → Option Spot
+one_down cells n spot = option_map (spot_in cells spot.line n) (child_in cells n spot.id)
 
 -- where names lead to
 abbrev pub walk : List Cell → Option Spot → List Name → Option Spot
 walk cells spot [] = spot
-walk cells spot (n ∷ ns) = walk cells (option_and_then (step cells n) spot) ns
+walk cells spot (n ∷ ns) = walk cells (option_and_then (one_down cells n) spot) ns
 
 -- what stands at a place
-abbrev pub node_at : List Cell → Spot → TreeNode
-node_at cells spot = record { node = (cell_at cells spot.id).node; line = spot.line }
+abbrev pub spot_node : List Cell → Spot → TreeNode
+spot_node cells spot = record { node = (cell_at cells spot.id).node; line = spot.line }
 
 -- what stands where names lead to
 abbrev pub seen : List Cell → Option Spot → List Name → Option TreeNode
-seen cells spot ns = option_map (node_at cells) (walk cells spot ns)
+seen cells spot ns = option_map (spot_node cells) (walk cells spot ns)
 
--- an entry leads to an older node, made before its directory
+-- a name that leads from a directory to a number is a component of paths, the number is below that of the directory, and its node was changed last no later than the directory
 pub record IsChild (cells : List Cell) (id : ℕ) (n : Name) (i : ℕ) : Type 0 where
   pub lower : i < id
   pub name : IsTrue (is_component n)
@@ -93,14 +93,14 @@ abbrev pub height_over : List Cell → List Entry → Height
 height_over cells [] = no_height
 height_over cells (e ∷ es) = higher (height_below e.name (cell_at cells e.id).height) (height_over cells es)
 
--- a directory's entries stand in order, and a file has none; the height is that of the longest ways
+-- the entries rise by their names, each leads to a child, and a file has none; the line began no later than the node was changed last; the height is that of the longest ways through the entries
 pub record IsCell (cells : List Cell) (id : ℕ) : Type 0 where
-  pub sorted : IsTrue (are_in_order (cell_at cells id).entries)
+  pub sorted : IsTrue (entries_rise (cell_at cells id).entries)
   pub children : (n : Name) (i : ℕ) → child_in cells n id ≡ Some i → IsChild cells id n i
   pub file : is_dir_kind (cell_at cells id).node.kind ≡ false → (cell_at cells id).entries ≡ []
   pub since : (cell_at cells id).line.since ≤ (cell_at cells id).node.created
   pub height : (cell_at cells id).height ≡ height_over cells (cell_at cells id).entries
 
 -- each cell of the table is so
-abbrev pub IsSound : List Cell → Type 0
-IsSound cells = (id : ℕ) → IsCell cells id
+abbrev pub IsSoundTable : List Cell → Type 0
+IsSoundTable cells = (id : ℕ) → IsCell cells id

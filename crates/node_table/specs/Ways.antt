@@ -12,11 +12,6 @@ Name = List ℕ
 abbrev pub are_names : List Name → Bool
 are_names ns = list_all is_component ns
 
--- the path that names lead to
-abbrev pub path_at : List ℕ → List Name → List ℕ
-path_at path [] = path
-path_at path (n ∷ ns) = path_at (join_text path n) ns
-
 -- the second way begins with the first
 abbrev pub is_front : List Name → List Name → Bool
 is_front [] ns = true

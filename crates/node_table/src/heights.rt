@@ -1,6 +1,6 @@
 ghost use Rattle.std.specs.Prelude.{◌≡◌, ◌<◌, ◌+◌, min, true, false, length};
 ghost use Rattle.node_table.specs.Heights.{height_below, higher};
-ghost use Rattle.node_table.specs.Tables.{IsSound};
+ghost use Rattle.node_table.specs.Tables.{IsSoundTable};
 ghost use Rattle.node_table.specs.Limits.{AllFit, HasLong};
 
 use crate::reading::cell_of;
@@ -31,7 +31,7 @@ pub fn height_with(height: Height, name: &[u8], below: Height) -> Height
 
 /// Whether all below a number has at most so many names, and so many bytes with a slash before each.
 pub fn fits_below(cells: &[Cell], id: NodeId, levels: u64, bytes: u64) -> bool
-    requires sound { IsSound cells.now }
+    requires sound { IsSoundTable cells.now }
     requires within { id < length cells.now }
     requires few { levels < 255 }
     requires short { bytes < 65535 }

@@ -2,7 +2,7 @@ ghost use Rattle.std.specs.Prelude.{◌≡◌, ◌<◌, IsTrue, IfOk, length};
 ghost use Rattle.dsv_base.specs.Paths.{is_path, components, join_text};
 ghost use Rattle.rev_nodes.specs.SoundNodes.{is_from_path};
 ghost use Rattle.node_table.specs.Ways.{names_in};
-ghost use Rattle.node_table.specs.Tables.{carried_line, below_line, IsSound};
+ghost use Rattle.node_table.specs.Tables.{carried_line, below_line, IsSoundTable};
 ghost use Rattle.node_table.specs.Rebuilt.{root_spot};
 ghost use Rattle.node_table.specs.Lines.{spot_with, line_seen, ComeFromPaths};
 
@@ -11,19 +11,6 @@ use crate::places::below_root;
 use crate::reading::{cell_of, child_at};
 use dsv_base::{NoMemory, Path, PathFault};
 use rev_nodes::{Cell, Line, NodeId};
-
-fn copy_line(line: &Line) -> Result<Line, NoMemory>
-    ensures { IfOk result (λ copy. copy ≡ line.now) }
-{
-    let source = match &line.source {
-        Some((path, rev)) => Some((path.copy()?, *rev)),
-        None => None,
-    };
-    Ok(Line {
-        since: line.since,
-        source,
-    })
-}
 
 /// The path with a name behind it.
 fn joined(path: &Path, name: &[u8]) -> Result<Path, NoMemory>
@@ -58,14 +45,14 @@ fn line_below(above: &Line, name: &[u8], own: &Line) -> Result<Line, NoMemory>
     ensures { IfOk result (λ line. line ≡ below_line above.now name.now own.now) }
 {
     if above.since.get() <= own.since.get() {
-        return copy_line(own);
+        return own.copy();
     }
     carried(above, name)
 }
 
 /// The line where names lead to from a place with this line.
 fn line_from(cells: &[Cell], id: NodeId, line: &Line, rest: &[u8]) -> Result<Option<Line>, NoMemory>
-    requires sound { IsSound cells.now }
+    requires sound { IsSoundTable cells.now }
     requires within { id < length cells.now }
     requires paths { ComeFromPaths cells.now (spot_with id line.now) }
     ensures { IfOk result (λ found. found ≡ line_seen cells.now (spot_with id line.now) (components rest.now)) }
@@ -87,7 +74,7 @@ fn line_from(cells: &[Cell], id: NodeId, line: &Line, rest: &[u8]) -> Result<Opt
 
 /// The line at a path of the tree of a root.
 pub fn line_at(cells: &[Cell], root: NodeId, path: &Path) -> Result<Option<Line>, NoMemory>
-    requires sound { IsSound cells.now }
+    requires sound { IsSoundTable cells.now }
     requires within { root < length cells.now }
     requires paths { ComeFromPaths cells.now (root_spot cells.now root) }
     ensures { IfOk result (λ found.
@@ -95,7 +82,7 @@ pub fn line_at(cells: &[Cell], root: NodeId, path: &Path) -> Result<Option<Line>
 {
     let line = &cell_of(cells, root).line;
     match below_root(path.text()) {
-        None => Ok(Some(copy_line(line)?)),
+        None => Ok(Some(line.copy()?)),
         Some(rest) => line_from(cells, root, line, rest),
     }
 }

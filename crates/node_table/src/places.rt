@@ -1,7 +1,7 @@
 ghost use Rattle.std.specs.Prelude.{◌≡◌, ◌<◌, [], Some, length, MatchOption, IsTrue};
 ghost use Rattle.dsv_base.specs.Paths.{components, is_path};
 ghost use Rattle.node_table.specs.Ways.{names_in};
-ghost use Rattle.node_table.specs.Tables.{reach, IsSound};
+ghost use Rattle.node_table.specs.Tables.{reach, IsSoundTable};
 
 use crate::reading::reached;
 use dsv_base::Path;
@@ -20,7 +20,7 @@ pub fn below_root(text: &[u8]) -> Option<&[u8]>
 
 /// The number at a path.
 pub fn place_at(cells: &[Cell], root: NodeId, path: &Path) -> Option<NodeId>
-    requires sound { IsSound cells.now }
+    requires sound { IsSoundTable cells.now }
     requires within { root < length cells.now }
     ensures place { result ≡ reach cells.now (Some root) (names_in path.now) }
     ensures path { IsTrue (is_path path.now) }

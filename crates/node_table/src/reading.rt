@@ -2,7 +2,7 @@ ghost use Rattle.std.specs.Prelude.{◌≡◌, ◌<◌, Some, None, length, IsTr
 ghost use Rattle.std.specs.Ordering.{nat_cmp};
 ghost use Rattle.std.specs.Cmp.Lexicographic.{slice_cmp};
 ghost use Rattle.dsv_base.specs.Paths.{components};
-ghost use Rattle.node_table.specs.Tables.{cell_at, child, are_in_order, IsEntryAt, child_in, reach, IsSound};
+ghost use Rattle.node_table.specs.Tables.{cell_at, child, entries_rise, IsEntryAt, child_in, reach, IsSoundTable};
 
 use crate::names::first_name;
 use rev_nodes::{Cell, Entry, NodeId};
@@ -18,7 +18,7 @@ pub fn cell_of(cells: &[Cell], id: NodeId) -> &Cell
 
 /// Where a name stands among entries in order, or else where it would stand.
 fn search(entries: &[Entry], name: &[u8]) -> Result<usize, usize>
-    requires { IsTrue (are_in_order entries.now) }
+    requires { IsTrue (entries_rise entries.now) }
     ensures found { IfOk result (IsEntryAt entries.now name.now) }
     ensures missing { OnErr result (child name.now entries.now ≡ None) }
 {
@@ -32,7 +32,7 @@ fn search(entries: &[Entry], name: &[u8]) -> Result<usize, usize>
 /// The number of the entry with a name, among entries in order.
 #[tactic(auto, using(crate::proofs::EntriesFound::child_of_found))]
 fn child_of(entries: &[Entry], name: &[u8]) -> Option<NodeId>
-    requires { IsTrue (are_in_order entries.now) }
+    requires { IsTrue (entries_rise entries.now) }
     ensures { result ≡ child name.now entries.now }
 {
     match search(entries, name) {
@@ -43,7 +43,7 @@ fn child_of(entries: &[Entry], name: &[u8]) -> Option<NodeId>
 
 /// The number at a name in a directory.
 pub fn child_at(cells: &[Cell], id: NodeId, name: &[u8]) -> Option<NodeId>
-    requires sound { IsSound cells.now }
+    requires sound { IsSoundTable cells.now }
     requires within { id < length cells.now }
     ensures { result ≡ child_in cells.now name.now id }
 {
@@ -53,7 +53,7 @@ pub fn child_at(cells: &[Cell], id: NodeId, name: &[u8]) -> Option<NodeId>
 /// The number that names lead to.
 #[tactic(auto, using(crate::proofs::Growing::reach_none, crate::proofs::Growing::child_within))]
 pub fn reached(cells: &[Cell], id: NodeId, rest: &[u8]) -> Option<NodeId>
-    requires sound { IsSound cells.now }
+    requires sound { IsSoundTable cells.now }
     requires within { id < length cells.now }
     ensures { result ≡ reach cells.now (Some id) (components rest.now) }
 {

@@ -3,18 +3,18 @@ ghost use Rattle.dsv_base.specs.Paths.{root_text};
 ghost use Rattle.rev_nodes.specs.Trees.{new_dir};
 ghost use Rattle.node_table.specs.Shown.{IsShown};
 ghost use Rattle.node_table.specs.Ways.{names_in};
-ghost use Rattle.node_table.specs.Tables.{cell_at, reach, IsSound};
+ghost use Rattle.node_table.specs.Tables.{cell_at, reach, IsSoundTable};
 ghost use Rattle.node_table.specs.Rebuilt.{root_spot, IsLonger};
 ghost use Rattle.node_table.specs.Steps.{IsBase};
-ghost use Rattle.node_table.specs.Rooms.{IsKept};
+ghost use Rattle.node_table.specs.Rooms.{KeepsCells};
 ghost use Rattle.node_table.specs.Lines.{line_seen, ComeFromPaths};
 
 use crate::lines::line_at;
 use crate::new_cells::new_cell;
 use crate::places::place_at;
 use crate::reading::cell_of;
-use dsv_base::{Bytes, NoMemory, Path, Rev};
-use rev_nodes::{Cell, Entry, Kind, Line, Node, NodeId};
+use dsv_base::{NoMemory, Path, Rev};
+use rev_nodes::{Cell, Entry, Kind, Line, Node, NodeId, Text};
 use std::alloc::Global;
 use std::marker::Model;
 
@@ -29,14 +29,14 @@ pub struct Table {
 
 impl Model for Table {
     ghost use Rattle.std.specs.Prelude.{◌-◌, vec_len, vec_capacity};
-    ghost use Rattle.node_table.specs.Tables.{IsSound};
+    ghost use Rattle.node_table.specs.Tables.{IsSoundTable};
     ghost use Rattle.node_table.specs.Rooms.{RoomyTable, table_of};
 
     ghost Value = { RoomyTable };
 
     ghost view = { λ t. table_of t.nodes.items (vec_capacity t.nodes - vec_len t.nodes) };
 
-    ghost invariant = { λ t. IsSound t.nodes.items };
+    ghost invariant = { λ t. IsSoundTable t.nodes.items };
 }
 
 impl Table {
@@ -50,19 +50,18 @@ impl Table {
     }
 
     /// Adds the tree of a revision that has the root alone, and gives its root.
-    pub fn add_root(&mut self, alloc: Global, rev: Rev) -> Result<NodeId, NoMemory>
+    pub fn add_root(&mut self, rev: Rev) -> Result<NodeId, NoMemory>
         ensures base { IfOk result (λ root. IsBase rev self.new.cells root) }
         ensures shown { IfOk result (λ root. IsShown self.new.cells root ((root_text, new_dir rev) ∷ [])) }
         ensures longer { IsLonger self.old.cells self.new.cells }
     {
-        let text = Bytes::from_vec(Vec::new(alloc));
-        push(&mut self.nodes, new_cell(alloc, Kind::Dir, text, rev))
+        push(&mut self.nodes, new_cell(Kind::Dir, Text::empty(), rev))
     }
 
     /// Its cells, by their numbers.
     pub fn cells(&self) -> &[Cell]
         ensures cells { result.now ≡ self.now.cells }
-        ensures sound { IsSound self.now.cells }
+        ensures sound { IsSoundTable self.now.cells }
     {
         self.nodes.as_slice()
     }
@@ -111,7 +110,7 @@ impl Table {
 
     /// Makes room for so many cells more. The table stays as it is.
     pub fn reserve(&mut self, count: usize) -> Result<(), NoMemory>
-        ensures kept { IsKept self.old self.new }
+        ensures kept { KeepsCells self.old self.new }
         ensures room { OnOk result (count ≤ self.new.room) }
     {
         self.nodes.reserve(count)?;
@@ -121,7 +120,7 @@ impl Table {
     /// Adds cells, for which there is room. It takes no memory.
     pub fn append(&mut self, cells: Vec<Cell>)
         requires room { length cells.items ≤ self.old.room }
-        requires sound { IsSound (self.old.cells ++ cells.items) }
+        requires sound { IsSoundTable (self.old.cells ++ cells.items) }
         ensures { self.new.cells ≡ self.old.cells ++ cells.items }
     {
         let mut cells = cells;

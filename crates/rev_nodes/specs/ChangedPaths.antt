@@ -58,7 +58,7 @@ source_from path (change ∷ changes) before = source_from path changes (source_
 abbrev pub added_path : List ℕ → List Change → TreeNode → Changed
 added_path path changes now = record { path = path; mark = Added; kind = now.node.kind; source = source_from path changes None }
 
--- how a path changed where a node stands there before and after: replaced where a change put another there, else modified
+-- how a path changed where a node stands there before and after: replaced, from its last source, where a change deleted what stood there, and else modified
 abbrev pub kept_path : List ℕ → List Change → TreeNode → Bool → Changed
 kept_path path changes now true = record { path = path; mark = Replaced; kind = now.node.kind; source = source_from path changes None }
 kept_path path changes now false = record { path = path; mark = Modified; kind = now.node.kind; source = None }

@@ -23,7 +23,7 @@ pub record ForestRevision : Type 0 where
   pub changed : List Changed
   pub places : List (List ℕ × Numbered)
 
--- the trees of a repository as they are read, and all nodes that were ever made, by number; `room` revisions and `node_room` nodes can be pushed before memory is taken
+-- a repository as it is read: its name, its uuid, its revisions, and all nodes that were ever made, by number; `room` revisions and `node_room` nodes can be pushed before memory is taken
 pub record Forest : Type 0 where
   pub name : List ℕ
   pub uuid : List ℕ

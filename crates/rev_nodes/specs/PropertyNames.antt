@@ -28,7 +28,7 @@ is_property_name name = is_local_name (if starts_with nat_eq name (codes "svn:")
 unfoldable pub is_revision_property : List ℕ → Bool
 is_revision_property name = is_property_name name && not (bytes_eq name (codes "svn:author")) && not (bytes_eq name (codes "svn:date"))
 
--- the names rise in byte order, so that each stands once
+-- the property's name stands before that of the next one, if there is one
 abbrev pub comes_before : Prop → List Prop → Bool
 comes_before prop [] = true
 comes_before prop (next ∷ props) = is_lt (slice_cmp nat_cmp prop.name next.name)

@@ -13,7 +13,7 @@ abbrev pub IsSourceBelow : ℕ → Option (List ℕ × ℕ) → Type 0
 IsSourceBelow r None = ⊤
 IsSourceBelow r (Some source) = source.1 < r
 
--- it stands at a path
+-- what a node was copied from, if it was, stands at a path
 abbrev pub is_from_path : Option (List ℕ × ℕ) → Bool
 is_from_path None = true
 is_from_path (Some source) = is_path source.0
@@ -22,7 +22,7 @@ is_from_path (Some source) = is_path source.0
 abbrev pub are_named : List Prop → Bool
 are_named props = list_all (λ prop. is_property_name prop.name) props
 
--- a node of the tree of revision r: it was changed last, and began, in that revision or before, and its source is a path of an earlier one than it began in
+-- a node of the tree of revision r: it was changed last, and began, in that revision or before; its source is a path of an earlier one than it began in; its properties have names of the grammar
 pub record IsSoundNode (r : ℕ) (found : TreeNode) : Type 0 where
   pub created : found.node.created ≤ r
   pub since : found.line.since ≤ r

@@ -13,6 +13,9 @@ mod mark;
 mod node;
 mod node_id;
 mod property_name;
+mod shared;
+mod summed;
+mod text;
 mod unfit;
 
 pub use cell::Cell;
@@ -27,4 +30,6 @@ pub use mark::Mark;
 pub use node::Node;
 pub use node_id::NodeId;
 pub use property_name::{is_property_name, is_revision_property};
+pub use shared::Shared;
+pub use text::Text;
 pub use unfit::Unfit;

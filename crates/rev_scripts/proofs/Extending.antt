@@ -7,7 +7,7 @@ use Rattle.rev_scripts.specs.declared.item.Item.TheVariants as item
 use Rattle.rev_scripts.specs.declared.script_fault.ScriptFault.{ScriptFault}
 use Rattle.rev_nodes.specs.declared.unfit.Unfit.{Unfit}
 use Rattle.rev_scripts.specs.Steps.{at_line, line_after}
-use Rattle.rev_scripts.specs.Items.{Told, nothing_told, with_prop, with_change}
+use Rattle.rev_scripts.specs.Items.{Told, nothing_told, told_with_prop, told_with_change}
 use Rattle.rev_nodes.specs.Trees.{Repository, Revision}
 use Rattle.rev_nodes.specs.Pushes.{first_revision, pushed}
 use Rattle.rev_scripts.specs.Scripts.{Items, Read, items_from, next_item, and_others, heading_from, revision_head, revision_from, read_of, at_change, with_read, revisions_from, repository_from}
@@ -36,12 +36,12 @@ read_more steps others number told line text more all next rest go (Ok (item.End
     ∙ ap (left_more more) i
 read_more steps others number told line text more all next rest go (Ok (item.Prop prop, left)) then_ h i =
     ap (and_others (items_from others number) told line (text ++ more)) h
-    ∙ ap (λ (n : ℕ). items_from others number (with_prop told prop) n (left ++ more)) (line_after_more line text left more)
-    ∙ go (with_prop told prop) (line_after line text left) left i
+    ∙ ap (λ (n : ℕ). items_from others number (told_with_prop told prop) n (left ++ more)) (line_after_more line text left more)
+    ∙ go (told_with_prop told prop) (line_after line text left) left i
 read_more steps others number told line text more all next rest go (Ok (item.Change change, left)) then_ h i =
     ap (and_others (items_from others number) told line (text ++ more)) h
-    ∙ ap (λ (n : ℕ). items_from others number (with_change told change line) n (left ++ more)) (line_after_more line text left more)
-    ∙ go (with_change told change line) (line_after line text left) left i
+    ∙ ap (λ (n : ℕ). items_from others number (told_with_change told change line) n (left ++ more)) (line_after_more line text left more)
+    ∙ go (told_with_change told change line) (line_after line text left) left i
 
 pub items_more : (steps others number : ℕ) (told : Told) (line : ℕ) (text more : List ℕ) (all : Told) (next : ℕ) (rest : List ℕ) → steps ≤ others → items_from steps number told line text ≡ (all, Ok (next, rest)) → items_from others number told line (text ++ more) ≡ (all, Ok (next, rest ++ more))
 unfolding items_from

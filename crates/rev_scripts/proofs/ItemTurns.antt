@@ -8,7 +8,7 @@ use Rattle.rev_scripts.specs.declared.item.Item.TheVariants as item
 use Rattle.rev_scripts.specs.declared.script_fault.ScriptFault.{ScriptFault}
 use Rattle.rev_scripts.specs.declared.script_fault.ScriptFault.TheVariants.{BadScript, NoMemory}
 use Rattle.rev_scripts.specs.Steps.{line_after}
-use Rattle.rev_scripts.specs.Items.{Told, with_prop, with_change, item_from}
+use Rattle.rev_scripts.specs.Items.{Told, told_with_prop, told_with_change, item_from}
 use Rattle.rev_scripts.specs.Scripts.{Items, items_from, next_item, and_others, wants_memory, UnlessNoMemory}
 
 -- the items of what is left, after what was told, give the whole
@@ -24,17 +24,17 @@ one_step : (left number : ℕ) (told : Told) (line : ℕ) (rest : List ℕ) (rea
 unfolding items_from
 one_step left number told line rest read e = ap (and_others (items_from left number) told line rest) e
 
-pub prop_read : (number : ℕ) (told : Told) (line : ℕ) (rest after : List ℕ) (whole : Items) (prop : Prop) → IsRead number told line rest whole → next_item number told line rest ≡ Ok (item.Prop prop, after) → length after < length rest → IsRead number (with_prop told prop) (line_after line rest after) after whole
+pub prop_read : (number : ℕ) (told : Told) (line : ℕ) (rest after : List ℕ) (whole : Items) (prop : Prop) → IsRead number told line rest whole → next_item number told line rest ≡ Ok (item.Prop prop, after) → length after < length rest → IsRead number (told_with_prop told prop) (line_after line rest after) after whole
 prop_read number told line rest after whole prop r e shorter = step r.steps r.enough r.same
   where
-    step : (steps : ℕ) → length rest ≤ steps → items_from steps number told line rest ≡ whole → IsRead number (with_prop told prop) (line_after line rest after) after whole
+    step : (steps : ℕ) → length rest ≤ steps → items_from steps number told line rest ≡ whole → IsRead number (told_with_prop told prop) (line_after line rest after) after whole
     step zero enough same = absurd (omega arith)
     step (suc left) enough same = record { steps = left; enough = omega arith; same = sym (one_step left number told line rest (Ok (item.Prop prop, after)) e) ∙ same }
 
-pub change_read : (number : ℕ) (told : Told) (line : ℕ) (rest after : List ℕ) (whole : Items) (change : Change) → IsRead number told line rest whole → next_item number told line rest ≡ Ok (item.Change change, after) → length after < length rest → IsRead number (with_change told change line) (line_after line rest after) after whole
+pub change_read : (number : ℕ) (told : Told) (line : ℕ) (rest after : List ℕ) (whole : Items) (change : Change) → IsRead number told line rest whole → next_item number told line rest ≡ Ok (item.Change change, after) → length after < length rest → IsRead number (told_with_change told change line) (line_after line rest after) after whole
 change_read number told line rest after whole change r e shorter = step r.steps r.enough r.same
   where
-    step : (steps : ℕ) → length rest ≤ steps → items_from steps number told line rest ≡ whole → IsRead number (with_change told change line) (line_after line rest after) after whole
+    step : (steps : ℕ) → length rest ≤ steps → items_from steps number told line rest ≡ whole → IsRead number (told_with_change told change line) (line_after line rest after) after whole
     step zero enough same = absurd (omega arith)
     step (suc left) enough same = record { steps = left; enough = omega arith; same = sym (one_step left number told line rest (Ok (item.Change change, after)) e) ∙ same }
 

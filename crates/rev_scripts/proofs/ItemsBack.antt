@@ -17,7 +17,7 @@ use Rattle.rev_scripts.specs.declared.item.Item.TheVariants as item
 use Rattle.rev_scripts.specs.declared.item_fault.ItemFault.{ItemFault}
 use Rattle.rev_scripts.specs.declared.script_fault.ScriptFault.{ScriptFault}
 use Rattle.rev_scripts.specs.Steps.{ok_where, at_line, line_after, most_revision}
-use Rattle.rev_scripts.specs.Items.{Told, item_from, item_after, may_follow, is_next_name, with_prop, with_change}
+use Rattle.rev_scripts.specs.Items.{Told, item_from, item_after, may_follow, is_next_name, told_with_prop, told_with_change}
 use Rattle.rev_scripts.specs.Scripts.{Items, items_from, next_item, and_others}
 use Rattle.rev_nodes.specs.PropertyNames.{comes_before, names_rise}
 use Rattle.rev_scripts.specs.Written.{prop_text, change_text, is_tellable_prop, is_tellable_change}
@@ -75,7 +75,7 @@ changes_back (change ∷ changes) number told line (suc left) rest small h some 
     let more = flat_map change_text changes ++ (codes "end\n" ++ rest) in
     let e = step left number told line (change_text change ++ more) _ (taken number told line (change_text change ++ more) more (item.Change change) (change_item change number more small p.0) (numbered number change p.0)) in
     let text = ap (λ (t : List ℕ). items_from (suc left) number told line t) (split_text change_text change changes (codes "end\n" ++ rest)) in
-    leads_to _ _ told.props _ _ rest (text ∙ e) (one_more told.changes change changes) (changes_back changes number (with_change told change line) (line_after line (change_text change ++ more) more) left rest small p.1 (omega arith))
+    leads_to _ _ told.props _ _ rest (text ∙ e) (one_more told.changes change changes) (changes_back changes number (told_with_change told change line) (line_after line (change_text change ++ more) more) left rest small p.1 (omega arith))
 
 -- ---- properties
 
@@ -113,4 +113,4 @@ props_back (prop ∷ props) changes number told line (suc left) rest small first
     let may : may_follow number told (item.Prop prop) ≡ true = ap (λ (cs : List Change). nat_eq (length cs) 0 && is_next_name told.props prop.name) first ∙ starts in
     let e = step left number told line (prop_text prop ++ more) _ (taken number told line (prop_text prop ++ more) more (item.Prop prop) (prop_item prop number more p.0) may) in
     let text = ap (λ (t : List ℕ). items_from (suc left) number told line t) (split_text prop_text prop props end) in
-    props_lead _ _ _ _ changes rest (text ∙ e) (one_more told.props prop props) (props_back props changes number (with_prop told prop) (line_after line (prop_text prop ++ more) more) left rest small first p.1 (starts_next told.props prop props q.0) q.1 i (omega arith))
+    props_lead _ _ _ _ changes rest (text ∙ e) (one_more told.props prop props) (props_back props changes number (told_with_prop told prop) (line_after line (prop_text prop ++ more) more) left rest small first p.1 (starts_next told.props prop props q.0) q.1 i (omega arith))

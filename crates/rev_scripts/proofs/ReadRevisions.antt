@@ -14,7 +14,7 @@ use Rattle.rev_trees.specs.declared.push_fault.PushFault.{PushFault}
 use Rattle.rev_trees.specs.declared.push_fault.PushFault.TheVariants as push
 use Rattle.rev_nodes.specs.declared.unfit.Unfit.{Unfit}
 use Rattle.rev_scripts.specs.Steps.{is_no_memory, fault_at, at_line, line_after, ok_where}
-use Rattle.rev_scripts.specs.Items.{Told, nothing_told, item_from, may_follow, with_prop}
+use Rattle.rev_scripts.specs.Items.{Told, nothing_told, item_from, may_follow, told_with_prop}
 use Rattle.rev_nodes.specs.Trees.{Tree, Revision}
 use Rattle.rev_nodes.specs.Pushes.{pushed, revision_of, youngest_tree, tree_after}
 use Rattle.rev_nodes.specs.Forests.{Forest, ForestRevision, without_numbers}
@@ -160,7 +160,7 @@ no_change : (told : Told) (line : ℕ) (text : List ℕ) → (read : Result (Ite
 unfolding next_item
 no_change told line text (Err fault) e others go = refl
 no_change told line text (Ok (item.End, rest)) e others go = refl
-no_change told line text (Ok (item.Prop prop, rest)) e others go = go (with_prop told prop) (line_after line text rest) rest
+no_change told line text (Ok (item.Prop prop, rest)) e others go = go (told_with_prop told prop) (line_after line text rest) rest
 no_change told line text (Ok (item.Change change, rest)) e others go = no_item told line (item.Change change) rest refl (item_from 0 text) e
 
 pub none_told : (steps : ℕ) (told : Told) (line : ℕ) (text : List ℕ) → (items_from steps 0 told line text).0.changes ≡ told.changes

@@ -20,7 +20,7 @@ use Rattle.rev_scripts.specs.declared.item_fault.ItemFault.{ItemFault}
 use Rattle.rev_scripts.specs.declared.script_fault.ScriptFault.{ScriptFault}
 use Rattle.rev_scripts.specs.Steps.{ok_where, line_from, word_from, after_front, number_from, most_revision, at_line, line_after}
 use Rattle.rev_scripts.specs.Uuids.{is_uuid}
-use Rattle.rev_scripts.specs.Items.{Told, nothing_told, may_follow, with_prop, with_change, one_part, item_from}
+use Rattle.rev_scripts.specs.Items.{Told, nothing_told, may_follow, told_with_prop, told_with_change, one_part, item_from}
 use Rattle.rev_scripts.specs.Scripts.{Items, Read, told_line, heading_from, revision_line, revision_head, items_from, next_item, and_others, read_of, revision_from, at_change, with_read, revisions_from, repository_from}
 use Rattle.rev_scripts.specs.Written.{three_numbers, prop_text, change_text, head_text, revision_text}
 use Rattle.rev_scripts.specs.Aloud.{heading_text, revisions_text, script_text, ScriptsReadAloud}
@@ -45,7 +45,7 @@ none_there : (changes : List Change) → nat_eq (length changes) 0 ≡ true → 
 none_there [] h = refl
 none_there (c ∷ cs) h = let none : suc (length cs) ≡ 0 = grind (arith, nat_tests) in absurd (omega (arith, none))
 
-prop_more : (told : Told) (prop : Prop) (rest : List ℕ) → told.changes ≡ [] → told_text told ++ (prop_text prop ++ rest) ≡ told_text (with_prop told prop) ++ rest
+prop_more : (told : Told) (prop : Prop) (rest : List ℕ) → told.changes ≡ [] → told_text told ++ (prop_text prop ++ rest) ≡ told_text (told_with_prop told prop) ++ rest
 prop_more told prop rest none =
     ap (λ (cs : List Change). (flat_map prop_text told.props ++ flat_map change_text cs) ++ (prop_text prop ++ rest)) none
     ∙ ap (λ t. t ++ (prop_text prop ++ rest)) (append-nil (flat_map prop_text told.props))
@@ -54,7 +54,7 @@ prop_more told prop rest none =
     ∙ ap (λ t. t ++ rest) (sym (append-nil (flat_map prop_text (told.props ++ prop ∷ []))))
     ∙ ap (λ (cs : List Change). (flat_map prop_text (told.props ++ prop ∷ []) ++ flat_map change_text cs) ++ rest) (sym none)
 
-change_more : (told : Told) (change : Change) (line : ℕ) (rest : List ℕ) → told_text told ++ (change_text change ++ rest) ≡ told_text (with_change told change line) ++ rest
+change_more : (told : Told) (change : Change) (line : ℕ) (rest : List ℕ) → told_text told ++ (change_text change ++ rest) ≡ told_text (told_with_change told change line) ++ rest
 change_more told change line rest =
     sym (append_assoc (told_text told) (change_text change) rest)
     ∙ ap (λ t. t ++ rest) (append_assoc (flat_map prop_text told.props) (flat_map change_text told.changes) (change_text change))
@@ -88,12 +88,12 @@ items_aloud (suc steps) number told line text all next rest short e = by (next_i
         let may = (taken_sounds number told line text (item.Prop prop, left) is).1 in
         (λ i. told_text told ++ text_is i)
         ∙ prop_more told prop left (none_there told.changes (and_parts (nat_eq (length told.changes) 0) _ may).0)
-        ∙ go (with_prop told prop) (line_after line text left) left (left_short text (prop_text prop) left text_is short) h
+        ∙ go (told_with_prop told prop) (line_after line text left) left (left_short text (prop_text prop) left text_is short) h
     by (Ok (item.Change change, left)) is go h =
         let text_is = item_aloud number text (item.Change change, left) short (taken_is number told line text (item.Change change, left) is) in
         (λ i. told_text told ++ text_is i)
         ∙ change_more told change line left
-        ∙ go (with_change told change line) (line_after line text left) left (left_short text (change_text change) left text_is short) h
+        ∙ go (told_with_change told change line) (line_after line text left) left (left_short text (change_text change) left text_is short) h
 
 -- ---- a revision
 

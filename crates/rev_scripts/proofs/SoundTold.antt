@@ -22,7 +22,7 @@ use Rattle.rev_scripts.specs.declared.item_fault.ItemFault.{ItemFault}
 use Rattle.rev_scripts.specs.declared.script_fault.ScriptFault.{ScriptFault}
 use Rattle.rev_scripts.specs.declared.script_fault.ScriptFault.TheVariants.{BadScript, NoMemory}
 use Rattle.rev_scripts.specs.Steps.{ok_where, line_from, word_from, number_from, at_line, line_after}
-use Rattle.rev_scripts.specs.Items.{Told, nothing_told, is_next_name, may_follow, with_prop, with_change, two_lengths, three_lengths, copy_numbers, one_part, two_parts, three_parts, prop_from, mkdir_from, delete_from, put_from, setprop_from, delprop_from, copy_from, item_of, item_after, item_from}
+use Rattle.rev_scripts.specs.Items.{Told, nothing_told, is_next_name, may_follow, told_with_prop, told_with_change, two_lengths, three_lengths, copy_numbers, one_part, two_parts, three_parts, prop_from, mkdir_from, delete_from, put_from, setprop_from, delprop_from, copy_from, item_of, item_after, item_from}
 use Rattle.rev_scripts.specs.Scripts.{Items, items_from, next_item, and_others, revision_line, revision_head, commit_of, wants_memory}
 
 -- ---- what went well
@@ -169,14 +169,14 @@ pub record IsSoundTold (told : Told) : Type 0 where
 one_more : {X : Type 0} (p : X → Bool) (xs : List X) (x : X) → list_all p xs ≡ true → p x ≡ true → list_all p (xs ++ x ∷ []) ≡ true
 one_more p xs x all one = list_all-append p xs (x ∷ []) ∙ (λ i. all i && (one i && true))
 
-prop_told : (told : Told) (prop : Prop) → IsSoundTold told → is_sound_prop prop ≡ true → is_next_name told.props prop.name ≡ true → IsSoundTold (with_prop told prop)
+prop_told : (told : Told) (prop : Prop) → IsSoundTold told → is_sound_prop prop ≡ true → is_next_name told.props prop.name ≡ true → IsSoundTold (told_with_prop told prop)
 prop_told told prop sound one next = record {
   props = one_more is_sound_prop told.props prop sound.props one;
   rising = rise_more told.props prop sound.rising next;
   changes = sound.changes;
 }
 
-change_told : (told : Told) (change : Change) (line : ℕ) → IsSoundTold told → is_sound_change change ≡ true → IsSoundTold (with_change told change line)
+change_told : (told : Told) (change : Change) (line : ℕ) → IsSoundTold told → is_sound_change change ≡ true → IsSoundTold (told_with_change told change line)
 change_told told change line sound one = record {
   props = sound.props;
   rising = sound.rising;
@@ -203,8 +203,8 @@ sound_items (suc steps) number told line text sound = by (next_item number told 
     by : (read : Result (Item × List ℕ) ScriptFault) → next_item number told line text ≡ read → ((t : Told) (l : ℕ) (x : List ℕ) → IsSoundTold t → IsSoundTold (items_from steps number t l x).0) → IsSoundTold (and_others (items_from steps number) told line text read).0
     by (Err fault) e go = sound
     by (Ok (item.End, rest)) e go = sound
-    by (Ok (item.Prop prop, rest)) e go = let s = taken_sounds number told line text (item.Prop prop, rest) e in go (with_prop told prop) (line_after line text rest) rest (prop_told told prop sound s.0 (and_parts _ _ s.1).1)
-    by (Ok (item.Change change, rest)) e go = let s = taken_sounds number told line text (item.Change change, rest) e in go (with_change told change line) (line_after line text rest) rest (change_told told change line sound s.0)
+    by (Ok (item.Prop prop, rest)) e go = let s = taken_sounds number told line text (item.Prop prop, rest) e in go (told_with_prop told prop) (line_after line text rest) rest (prop_told told prop sound s.0 (and_parts _ _ s.1).1)
+    by (Ok (item.Change change, rest)) e go = let s = taken_sounds number told line text (item.Change change, rest) e in go (told_with_change told change line) (line_after line text rest) rest (change_told told change line sound s.0)
 
 pub nothing_sound : IsSoundTold nothing_told
 nothing_sound = record { props = refl; rising = refl; changes = refl }

@@ -169,9 +169,9 @@ may_follow number told (item.Prop prop) = nat_eq (length told.changes) 0 && is_n
 may_follow number told (item.Change change) = nat_le 1 number
 
 -- one property more was told
-abbrev pub with_prop : Told → Prop → Told
-with_prop told prop = record told { props = told.props ++ prop ∷ [] }
+abbrev pub told_with_prop : Told → Prop → Told
+told_with_prop told prop = record told { props = told.props ++ prop ∷ [] }
 
 -- one change more was told, at this line
-abbrev pub with_change : Told → Change → ℕ → Told
-with_change told change line = record told { changes = told.changes ++ change ∷ []; lines = told.lines ++ line ∷ [] }
+abbrev pub told_with_change : Told → Change → ℕ → Told
+told_with_change told change line = record told { changes = told.changes ++ change ∷ []; lines = told.lines ++ line ∷ [] }

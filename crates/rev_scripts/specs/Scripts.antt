@@ -12,7 +12,7 @@ use Rattle.rev_scripts.specs.declared.script_fault.ScriptFault.{ScriptFault}
 use Rattle.rev_scripts.specs.declared.script_fault.ScriptFault.TheVariants.{BadScript, NoMemory}
 use Rattle.rev_scripts.specs.Steps.{ok_where, line_from, word_from, after_front, number_from, most_revision, at_line, line_after}
 use Rattle.rev_scripts.specs.Uuids.{is_uuid}
-use Rattle.rev_scripts.specs.Items.{one_part, item_from, Told, nothing_told, may_follow, with_prop, with_change}
+use Rattle.rev_scripts.specs.Items.{one_part, item_from, Told, nothing_told, may_follow, told_with_prop, told_with_change}
 use Rattle.rev_nodes.specs.Trees.{Repository, Revision}
 use Rattle.rev_nodes.specs.Pushes.{first_revision, pushed}
 use Rattle.rev_nodes.specs.Commits.{is_author}
@@ -67,8 +67,8 @@ Items = Told × Result (ℕ × List ℕ) ScriptFault
 -- what an item tells, and what the others after it tell
 abbrev pub after_item : (Told → ℕ → List ℕ → Items) → Told → ℕ → ℕ → Item × List ℕ → Items
 after_item others told line next (item.End, rest) = (told, Ok (next, rest))
-after_item others told line next (item.Prop prop, rest) = others (with_prop told prop) next rest
-after_item others told line next (item.Change change, rest) = others (with_change told change line) next rest
+after_item others told line next (item.Prop prop, rest) = others (told_with_prop told prop) next rest
+after_item others told line next (item.Change change, rest) = others (told_with_change told change line) next rest
 
 -- what an item and those after it tell, or the fault of an item that can't be read
 abbrev pub and_others : (Told → ℕ → List ℕ → Items) → Told → ℕ → List ℕ → Result (Item × List ℕ) ScriptFault → Items

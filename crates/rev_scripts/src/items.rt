@@ -10,7 +10,7 @@ use crate::item::Item;
 use crate::item_fault::ItemFault;
 use crate::parts::{copy_numbers, one_part, three_lengths, three_parts, two_lengths, two_parts};
 use dsv_base::{Bytes, Path, Prop, Rev};
-use rev_nodes::{Change, is_property_name, is_revision_property};
+use rev_nodes::{Change, Text, is_property_name, is_revision_property};
 
 /// The first item of `text`, which is of the revision of this number, and what stands after it.
 #[tactic(auto, unfolding(crate::specs::Items::item_from))]
@@ -109,6 +109,7 @@ fn put_from(numbers: &[u8], text: &Bytes) -> Result<(Item, Bytes), ItemFault>
     let (path, content) = two_lengths(text.get().len() as u64, numbers)?;
     let (path, text, rest) = two_parts(path, content, text)?;
     let path = path_of(path)?;
+    let text = Text::of(text)?;
     Ok((Item::Change(Change::Put { path, text }), rest))
 }
 

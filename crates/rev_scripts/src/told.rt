@@ -1,5 +1,5 @@
 ghost use Rattle.std.specs.Prelude.{◌≡◌, OnOk};
-ghost use Rattle.rev_scripts.specs.Items.{may_follow, is_next_name, nothing_told, with_prop, with_change};
+ghost use Rattle.rev_scripts.specs.Items.{may_follow, is_next_name, nothing_told, told_with_prop, told_with_change};
 
 use crate::item::Item;
 use dsv_base::{Bytes, List, Moment, NoMemory, Prop, Rev};
@@ -53,7 +53,7 @@ impl Told {
 
     /// Takes a property.
     pub fn add_prop(&mut self, prop: Prop) -> Result<(), NoMemory>
-        ensures { OnOk result (self.new ≡ with_prop self.old prop) }
+        ensures { OnOk result (self.new ≡ told_with_prop self.old prop) }
     {
         self.props.push(prop)?;
         Ok(())
@@ -61,7 +61,7 @@ impl Told {
 
     /// Takes a change that begins at this line.
     pub fn add_change(&mut self, change: Change, line: u32) -> Result<(), NoMemory>
-        ensures { OnOk result (self.new ≡ with_change self.old change line) }
+        ensures { OnOk result (self.new ≡ told_with_change self.old change line) }
     {
         self.changes.push(change)?;
         self.lines.push(line)?;

@@ -19,7 +19,7 @@ use Rattle.node_table.specs.Shown.{IsShown}
 use Rattle.node_table.proofs.Found.{found_as, none_at}
 use Rattle.node_table.proofs.PathNames.{names_of_path}
 use Rattle.tree_edits.specs.declared.held.Held.{Held}
-use Rattle.tree_edits.specs.Edits.{EditedTree, held, shown_node, AreShown}
+use Rattle.tree_edits.specs.Edits.{EditedTree, held, held_node, AreShown}
 use Rattle.rev_trees.specs.ChangedKinds.{kind_before, kind_after, kept_kind, changed_kind, row_between}
 
 abbrev kind_of : TreeNode → Kind
@@ -49,7 +49,7 @@ module _ (cells : List Cell) (root : ℕ) (edits : EditedTree) (before after : T
         let n = names_of_path path one in
         by (held cells edits (names_in path)) ∙ sym (ap (option_map kind_of) (ap (λ p. at p after) (sym n.path) ∙ now.shows (names_in path) n.names))
       where
-        by : (o : Option Held) → option_map (λ (h : Held). h.node.kind) o ≡ option_map kind_of (option_map shown_node o)
+        by : (o : Option Held) → option_map (λ (h : Held). h.node.kind) o ≡ option_map kind_of (option_map held_node o)
         by None = refl
         by (Some h) = refl
 

@@ -9,7 +9,7 @@ use Rattle.rev_nodes.specs.declared.cell.Cell.{Cell}
 use Rattle.rev_nodes.specs.Trees.{TreeNode, Tree, at}
 use Rattle.rev_nodes.specs.Forests.{Numbered}
 use Rattle.node_table.specs.Ways.{names_in}
-use Rattle.node_table.specs.Tables.{cell_at, reach, IsSound}
+use Rattle.node_table.specs.Tables.{cell_at, reach, IsSoundTable}
 use Rattle.node_table.specs.Shown.{IsShown}
 use Rattle.node_table.specs.Numbers.{number_at, numbered}
 use Rattle.node_table.proofs.Found.{found_as, none_at}
@@ -38,7 +38,7 @@ module _ (cells : List Cell) (root : ℕ) (tree : Tree) (shown : IsShown cells r
       ap (option_map (λ (p : Numbered). p.here.node)) (find-numbered cells root path tree ∙ ap (option_map (with_number cells root path)) s.there) ∙ ap (λ n. Some n) s.node
 
 -- a longer table has the same numbers
-module _ (cells more : List Cell) (sound : IsSound cells) (root : ℕ) (within : root < length cells) where
+module _ (cells more : List Cell) (sound : IsSoundTable cells) (root : ℕ) (within : root < length cells) where
   number_at-kept : (path : List ℕ) → number_at (cells ++ more) root path ≡ number_at cells root path
   number_at-kept path = ap (λ (o : Option ℕ). option_map_or (λ (i : ℕ). i) o 0) (reach-kept cells sound more (names_in path) root within)
 

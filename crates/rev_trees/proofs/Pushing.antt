@@ -16,7 +16,7 @@ use Rattle.rev_nodes.specs.SoundNodes.{HasSoundNode}
 use Rattle.rev_nodes.proofs.Forming.{past_end}
 use Rattle.rev_nodes.proofs.NodesSound.{later_nodes, sound_changes, sources_below}
 use Rattle.node_table.specs.Ways.{Name}
-use Rattle.node_table.specs.Tables.{Spot, seen, IsSound}
+use Rattle.node_table.specs.Tables.{Spot, seen, IsSoundTable}
 use Rattle.node_table.specs.Rebuilt.{root_spot}
 use Rattle.node_table.specs.Shown.{IsShown}
 use Rattle.node_table.proofs.Growing.{cell_at-kept, seen-kept}
@@ -26,14 +26,14 @@ use Rattle.rev_trees.specs.declared.push_fault.PushFault.TheVariants as faults
 use Rattle.rev_trees.specs.declared.revision.KeptRevision.{KeptRevision}
 use Rattle.rev_trees.specs.declared.next.NextRevision.{NextRevision}
 use Rattle.rev_trees.specs.Readies.{ReadyRevision, IsReadyOn, IsNext, Prepares, Pushes, revisions_of}
-use Rattle.rev_trees.specs.Kept.{tree_or_none, youngest, after, trees_in, revision_in, revisions_in, forest_of, kept_at, IsKept, AreKept, tree_made, ready_of, IsReady}
+use Rattle.rev_trees.specs.Kept.{tree_or_none, youngest, after, trees_in, seen_revision, seen_revisions, forest_of, kept_at, IsKept, AreKept, tree_made, ready_of, IsReady}
 use Rattle.rev_trees.specs.Made.{IsMade, Makes}
 use Rattle.rev_trees.proofs.Replay.{trees-push, trees-length, length-push, tree_at-push, tree_at-last, kept_at-push, kept_at-last}
 use Rattle.rev_trees.proofs.Viewed.{in-push, in-kept, length-of, nodes-of, room-of, node_room-of, youngest-is, after-is}
 
 -- ---- a longer table shows the same
 
-module _ (cells more : List Cell) (sound : IsSound cells) where
+module _ (cells more : List Cell) (sound : IsSoundTable cells) where
   shown_more : (root : ℕ) (tree : Tree) → root < length cells → IsShown cells root tree → IsShown (cells ++ more) root tree
   shown_more root tree within s = record {
     shown = λ ns named. s.shown ns named ∙ sym (same ns);
@@ -56,7 +56,7 @@ module _ (cells more : List Cell) (sound : IsSound cells) where
   }
 
 -- the revisions with one more
-kept_more : (cells more : List Cell) (rs : List KeptRevision) (r : KeptRevision) (tree : Tree) → AreKept cells rs → IsSound (cells ++ more) → IsKept (cells ++ more) (length rs) tree r.root r.commit → tree ≡ after (trees_in rs) r.commit → length rs ≤ 2000000000 → AreKept (cells ++ more) (rs ++ r ∷ [])
+kept_more : (cells more : List Cell) (rs : List KeptRevision) (r : KeptRevision) (tree : Tree) → AreKept cells rs → IsSoundTable (cells ++ more) → IsKept (cells ++ more) (length rs) tree r.root r.commit → tree ≡ after (trees_in rs) r.commit → length rs ≤ 2000000000 → AreKept (cells ++ more) (rs ++ r ∷ [])
 kept_more cells more rs r tree kept sound new is few = record {
   some = omega (arith, length-push rs r);
   few = omega (arith, length-push rs r, few);
@@ -98,8 +98,8 @@ module _ (name uuid : List ℕ) (cells : List Cell) (rs : List KeptRevision) (ro
   pub number_on : number ≡ length rs
   number_on = made.next ∙ ap (λ (qs : List ForestRevision). length qs) same_base ∙ length-of name uuid cells rs room node_room forest is
 
-  pub sound_on : IsSound (cells ++ more)
-  sound_on = subst (λ (cs : List Cell). IsSound (cs ++ more)) same_nodes made.sound
+  pub sound_on : IsSoundTable (cells ++ more)
+  sound_on = subst (λ (cs : List Cell). IsSoundTable (cs ++ more)) same_nodes made.sound
 
   pub room_on : 1 ≤ room
   room_on =
@@ -132,11 +132,11 @@ module _ (name uuid : List ℕ) (cells : List Cell) (rs : List KeptRevision) (ro
   pushes_one kept new_room new_node_room = record {
     name = ap (λ (f : Forest). f.name) is;
     uuid = ap (λ (f : Forest). f.uuid) is;
-    revision = revision_in (cells ++ more) r (after (trees_in rs) r.commit);
+    revision = seen_revision (cells ++ more) r (after (trees_in rs) r.commit);
     revisions =
-        ap (revisions_in (cells ++ more) (rs ++ r ∷ [])) (trees-push rs r kept.some)
+        ap (seen_revisions (cells ++ more) (rs ++ r ∷ [])) (trees-push rs r kept.some)
         ∙ in-push (cells ++ more) rs (trees_in rs) r (after (trees_in rs) r.commit) (trees-length rs)
-        ∙ ap (λ (qs : List ForestRevision). qs ++ revision_in (cells ++ more) r (after (trees_in rs) r.commit) ∷ []) (in-kept cells more kept.sound rs (trees_in rs) (λ rev h. (kept.kept rev h).within) ∙ ap (λ (f : Forest). f.revisions) is);
+        ∙ ap (λ (qs : List ForestRevision). qs ++ seen_revision (cells ++ more) r (after (trees_in rs) r.commit) ∷ []) (in-kept cells more kept.sound rs (trees_in rs) (λ rev h. (kept.kept rev h).within) ∙ ap (λ (f : Forest). f.revisions) is);
     commit = ap (λ (q : ReadyRevision). q.commit) as_ready;
     changed = ap (λ (q : ReadyRevision). q.changed) as_ready;
     tree = tree-numbered (cells ++ more) r.root (after (trees_in rs) r.commit) ∙ sym tree_on ∙ ap (λ (q : ReadyRevision). q.tree) as_ready;
@@ -178,7 +178,7 @@ module _ (name uuid : List ℕ) (cells : List Cell) (rs : List KeptRevision) (ro
   made_ready number number_is few = subst (λ (n : ℕ). IsReady base n next.revision next.cells.items) (sym number_is) (record {
     next = sym (length-of name uuid cells rs room node_room base is);
     few = omega (arith, few, number_is);
-    sound = subst (λ (cs : List Cell). IsSound (cs ++ next.cells.items)) (sym (nodes-of name uuid cells rs room node_room base is)) made.sound;
+    sound = subst (λ (cs : List Cell). IsSoundTable (cs ++ next.cells.items)) (sym (nodes-of name uuid cells rs room node_room base is)) made.sound;
     kept = subst (λ (cs : List Cell). IsKept (cs ++ next.cells.items) (length rs) (tree_made base next.revision.commit) next.revision.root next.revision.commit) (sym (nodes-of name uuid cells rs room node_room base is))
         (subst (λ (t : Tree). IsKept (cells ++ next.cells.items) (length rs) t next.revision.root next.revision.commit) (sym tree_is) (record {
           within = made.within;

@@ -5,12 +5,12 @@ use Rattle.dsv_base.specs.Paths.{root_text, join_text}
 use Rattle.rev_nodes.specs.declared.cell.Cell.{Cell}
 use Rattle.rev_nodes.specs.Trees.{Tree}
 use Rattle.node_table.specs.Ways.{Name}
-use Rattle.node_table.specs.Tables.{Spot, cell_at, child_in, spot_in, walk, node_at, seen, below_line}
+use Rattle.node_table.specs.Tables.{Spot, cell_at, child_in, spot_in, walk, spot_node, seen, below_line}
 use Rattle.node_table.specs.Rebuilt.{root_spot}
 use Rattle.node_table.specs.Shown.{IsShown}
 use Rattle.node_table.proofs.Growing.{walk_none}
 use Rattle.tree_edits.specs.declared.held.Held.{Held}
-use Rattle.tree_edits.specs.Edits.{EditedTree, held_in, held_from, shown_node, shown, AreShown}
+use Rattle.tree_edits.specs.Edits.{EditedTree, held_in, held_from, held_node, shown, AreShown}
 use Rattle.tree_edits.specs.AreEdits.{AreEdits}
 use Rattle.tree_edits.specs.Reading.{CanReadEdits}
 
@@ -36,9 +36,9 @@ held_walk cells (n ∷ ns) path spot = by (child_in cells n spot.id) (λ i. held
     by (Some i) go = go i
 
 pub untouched_shown : (cells : List Cell) (root : ℕ) (ns : List Name) → shown cells (untouched root) ns ≡ seen cells (Some (root_spot cells root)) ns
-untouched_shown cells root ns = ap (option_map shown_node) (held_walk cells ns root_text (root_spot cells root)) ∙ nodes (walk cells (Some (root_spot cells root)) ns)
+untouched_shown cells root ns = ap (option_map held_node) (held_walk cells ns root_text (root_spot cells root)) ∙ nodes (walk cells (Some (root_spot cells root)) ns)
   where
-    nodes : (o : Option Spot) → option_map shown_node (option_map (held_at cells) o) ≡ option_map (node_at cells) o
+    nodes : (o : Option Spot) → option_map held_node (option_map (held_at cells) o) ≡ option_map (spot_node cells) o
     nodes None = refl
     nodes (Some s) = refl
 

@@ -6,44 +6,44 @@ use Rattle.rev_nodes.specs.Trees.{Tree, Revision, tree_at}
 use Rattle.rev_nodes.specs.Changes.{apply_from}
 use Rattle.rev_nodes.specs.Forests.{ForestRevision, Forest, no_revision, without_numbers, revision_at, places_at}
 use Rattle.rev_nodes.specs.Pushes.{trees_of, youngest_tree, tree_after}
-use Rattle.node_table.specs.Tables.{IsSound}
+use Rattle.node_table.specs.Tables.{IsSoundTable}
 use Rattle.node_table.specs.Numbers.{numbered}
 use Rattle.node_table.proofs.Numbers.{tree-numbered}
 use Rattle.rev_trees.specs.declared.revision.KeptRevision.{KeptRevision}
-use Rattle.rev_trees.specs.Kept.{youngest, made_of, trees_in, revision_in, revisions_in, forest_of, kept_at}
+use Rattle.rev_trees.specs.Kept.{youngest, made_of, trees_in, seen_revision, seen_revisions, forest_of, kept_at}
 use Rattle.rev_trees.proofs.PlacesFound.{numbered-kept}
 use Rattle.rev_trees.proofs.Replay.{trees-length}
 
-in-length : (cells : List Cell) (rs : List KeptRevision) (ts : List Tree) → length ts ≡ length rs → length (revisions_in cells rs ts) ≡ length rs
+in-length : (cells : List Cell) (rs : List KeptRevision) (ts : List Tree) → length ts ≡ length rs → length (seen_revisions cells rs ts) ≡ length rs
 in-length cells [] ts same = refl
 in-length cells (r ∷ rs) [] same = absurd (omega arith)
 in-length cells (r ∷ rs) (t ∷ ts) same = ap suc (in-length cells rs ts (omega arith))
 
-in-at : (cells : List Cell) (rs : List KeptRevision) (ts : List Tree) (rev : ℕ) → length ts ≡ length rs → rev < length rs → get_or (revisions_in cells rs ts) rev no_revision ≡ revision_in cells (kept_at rs rev) (tree_at ts rev)
+in-at : (cells : List Cell) (rs : List KeptRevision) (ts : List Tree) (rev : ℕ) → length ts ≡ length rs → rev < length rs → get_or (seen_revisions cells rs ts) rev no_revision ≡ seen_revision cells (kept_at rs rev) (tree_at ts rev)
 in-at cells [] ts rev same h = absurd (omega arith)
 in-at cells (r ∷ rs) [] rev same h = absurd (omega arith)
 in-at cells (r ∷ rs) (t ∷ ts) zero same h = refl
 in-at cells (r ∷ rs) (t ∷ ts) (suc rev) same h = in-at cells rs ts rev (omega arith) (omega arith)
 
-in-past : (cells : List Cell) (rs : List KeptRevision) (ts : List Tree) (rev : ℕ) → length rs ≤ rev → get_or (revisions_in cells rs ts) rev no_revision ≡ no_revision
+in-past : (cells : List Cell) (rs : List KeptRevision) (ts : List Tree) (rev : ℕ) → length rs ≤ rev → get_or (seen_revisions cells rs ts) rev no_revision ≡ no_revision
 in-past cells [] ts rev h = refl
 in-past cells (r ∷ rs) [] rev h = refl
 in-past cells (r ∷ rs) (t ∷ ts) zero h = absurd (omega arith)
 in-past cells (r ∷ rs) (t ∷ ts) (suc rev) h = in-past cells rs ts rev (omega arith)
 
-pub in-push : (cells : List Cell) (rs : List KeptRevision) (ts : List Tree) (r : KeptRevision) (t : Tree) → length ts ≡ length rs → revisions_in cells (rs ++ r ∷ []) (ts ++ t ∷ []) ≡ revisions_in cells rs ts ++ revision_in cells r t ∷ []
+pub in-push : (cells : List Cell) (rs : List KeptRevision) (ts : List Tree) (r : KeptRevision) (t : Tree) → length ts ≡ length rs → seen_revisions cells (rs ++ r ∷ []) (ts ++ t ∷ []) ≡ seen_revisions cells rs ts ++ seen_revision cells r t ∷ []
 in-push cells [] [] r t same = refl
 in-push cells [] (u ∷ ts) r t same = absurd (omega arith)
 in-push cells (q ∷ rs) [] r t same = absurd (omega arith)
-in-push cells (q ∷ rs) (u ∷ ts) r t same = ap (λ (others : List ForestRevision). revision_in cells q u ∷ others) (in-push cells rs ts r t (omega arith))
+in-push cells (q ∷ rs) (u ∷ ts) r t same = ap (λ (others : List ForestRevision). seen_revision cells q u ∷ others) (in-push cells rs ts r t (omega arith))
 
-in-trees : (cells : List Cell) (rs : List KeptRevision) (ts : List Tree) → length ts ≡ length rs → trees_of (map without_numbers (revisions_in cells rs ts)) ≡ ts
+in-trees : (cells : List Cell) (rs : List KeptRevision) (ts : List Tree) → length ts ≡ length rs → trees_of (map without_numbers (seen_revisions cells rs ts)) ≡ ts
 in-trees cells [] [] same = refl
 in-trees cells [] (t ∷ ts) same = absurd (omega arith)
 in-trees cells (r ∷ rs) [] same = absurd (omega arith)
 in-trees cells (r ∷ rs) (t ∷ ts) same = λ i. tree-numbered cells r.root t i ∷ in-trees cells rs ts (omega arith) i
 
-pub in-kept : (cells more : List Cell) → IsSound cells → (rs : List KeptRevision) (ts : List Tree) → ((rev : ℕ) → rev < length rs → (kept_at rs rev).root < length cells) → revisions_in (cells ++ more) rs ts ≡ revisions_in cells rs ts
+pub in-kept : (cells more : List Cell) → IsSoundTable cells → (rs : List KeptRevision) (ts : List Tree) → ((rev : ℕ) → rev < length rs → (kept_at rs rev).root < length cells) → seen_revisions (cells ++ more) rs ts ≡ seen_revisions cells rs ts
 in-kept cells more sound [] ts within = refl
 in-kept cells more sound (r ∷ rs) [] within = refl
 in-kept cells more sound (r ∷ rs) (t ∷ ts) within =
@@ -62,7 +62,7 @@ module _ (name uuid : List ℕ) (cells : List Cell) (rs : List KeptRevision) (ro
   pub node_room-of : forest.node_room ≡ node_room
   node_room-of = ap (λ (f : Forest). f.node_room) (sym is)
 
-  revision-of : (rev : ℕ) → rev < length rs → revision_at forest rev ≡ revision_in cells (kept_at rs rev) (tree_at (trees_in rs) rev)
+  revision-of : (rev : ℕ) → rev < length rs → revision_at forest rev ≡ seen_revision cells (kept_at rs rev) (tree_at (trees_in rs) rev)
   revision-of rev h = ap (λ (f : Forest). revision_at f rev) (sym is) ∙ in-at cells rs (trees_in rs) rev (trees-length rs) h
 
   pub commit-of : (rev : ℕ) → rev < length rs → (revision_at forest rev).commit ≡ (kept_at rs rev).commit

@@ -15,7 +15,7 @@ use Rattle.rev_nodes.specs.Fitting.{in_order}
 use Rattle.rev_nodes.specs.Forests.{ForestRevision, Forest, without_numbers, no_commit}
 use Rattle.rev_nodes.specs.Pushes.{tree_after}
 use Rattle.rev_nodes.specs.SoundNodes.{HasSoundNode}
-use Rattle.node_table.specs.Tables.{cell_at, IsSound}
+use Rattle.node_table.specs.Tables.{cell_at, IsSoundTable}
 use Rattle.node_table.specs.Numbers.{numbered}
 use Rattle.node_table.specs.Shown.{IsShown}
 use Rattle.rev_trees.specs.declared.revision.KeptRevision.{KeptRevision}
@@ -53,25 +53,25 @@ trees_in [] = []
 trees_in (revision ∷ revisions) = trees_from (first_tree ∷ []) (commits_of revisions)
 
 -- a revision as callers see it
-abbrev pub revision_in : List Cell → KeptRevision → Tree → ForestRevision
-revision_in cells revision tree = record {
+abbrev pub seen_revision : List Cell → KeptRevision → Tree → ForestRevision
+seen_revision cells revision tree = record {
   commit = revision.commit;
   changed = revision.changed;
   places = numbered cells revision.root tree;
 }
 
 -- revisions as callers see them, each with its tree
-abbrev pub revisions_in : List Cell → List KeptRevision → List Tree → List ForestRevision
-revisions_in cells [] trees = []
-revisions_in cells (revision ∷ revisions) [] = []
-revisions_in cells (revision ∷ revisions) (tree ∷ trees) = revision_in cells revision tree ∷ revisions_in cells revisions trees
+abbrev pub seen_revisions : List Cell → List KeptRevision → List Tree → List ForestRevision
+seen_revisions cells [] trees = []
+seen_revisions cells (revision ∷ revisions) [] = []
+seen_revisions cells (revision ∷ revisions) (tree ∷ trees) = seen_revision cells revision tree ∷ seen_revisions cells revisions trees
 
 -- the trees as callers see them
 abbrev pub forest_of : List ℕ → List ℕ → List Cell → List KeptRevision → ℕ → ℕ → Forest
 forest_of name uuid cells revisions room node_room = record {
   name = name;
   uuid = uuid;
-  revisions = revisions_in cells revisions (trees_in revisions);
+  revisions = seen_revisions cells revisions (trees_in revisions);
   nodes = cells;
   room = room;
   node_room = node_room;
@@ -86,8 +86,8 @@ abbrev pub kept_at : List KeptRevision → ℕ → KeptRevision
 kept_at revisions rev = slice_index_or revisions rev no_kept_revision
 
 -- the root of the revision of this number, if there is one
-abbrev pub root_in : List KeptRevision → ℕ → Option ℕ
-root_in revisions rev = if nat_lt rev (length revisions) then Some (kept_at revisions rev).root else None
+abbrev pub kept_root : List KeptRevision → ℕ → Option ℕ
+kept_root revisions rev = if nat_lt rev (length revisions) then Some (kept_at revisions rev).root else None
 
 -- the root of the tree that a change copies from, if there is such a revision; none for another change
 abbrev pub source_in : List KeptRevision → Change → Option ℕ
@@ -96,9 +96,9 @@ source_in revisions (SetProp path name value) = None
 source_in revisions (DelProp path name) = None
 source_in revisions (Mkdir path) = None
 source_in revisions (Delete path) = None
-source_in revisions (Copy source rev path) = root_in revisions rev
+source_in revisions (Copy source rev path) = kept_root revisions rev
 
--- a root of the table that shows the tree of the revision of this number, which its commit made
+-- a root of the table, changed last in the revision of this number or before, shows the tree, whose places stand in order and whose nodes are sound there; and the commit is one of this number
 pub record IsKept (cells : List Cell) (rev : ℕ) (tree : Tree) (root : ℕ) (commit : Commit) : Type 0 where
   pub within : root < length cells
   pub created : (cell_at cells root).node.created ≤ rev
@@ -107,11 +107,11 @@ pub record IsKept (cells : List Cell) (rev : ℕ) (tree : Tree) (root : ℕ) (co
   pub nodes : All (HasSoundNode rev) tree
   pub commit_is : IsCommitOf rev commit
 
--- revisions that trees may keep
+-- one revision or more, as many as there are numbers at most, over a sound table; each root shows what its commit made of the trees before it
 pub record AreKept (cells : List Cell) (revisions : List KeptRevision) : Type 0 where
   pub some : 1 ≤ length revisions
   pub few : length revisions ≤ 2000000001
-  pub sound : IsSound cells
+  pub sound : IsSoundTable cells
   pub kept : (rev : ℕ) → rev < length revisions → IsKept cells rev (tree_at (trees_in revisions) rev) (kept_at revisions rev).root (kept_at revisions rev).commit
 
 -- the tree that a commit makes of the youngest one of a forest
@@ -134,6 +134,6 @@ ready_of base commit changed cells = record {
 pub record IsReady (base : Forest) (number : ℕ) (made : KeptRevision) (cells : List Cell) : Type 0 where
   pub next : number ≡ length base.revisions
   pub few : number ≤ 2000000000
-  pub sound : IsSound (base.nodes ++ cells)
+  pub sound : IsSoundTable (base.nodes ++ cells)
   pub kept : IsKept (base.nodes ++ cells) number (tree_made base made.commit) made.root made.commit
   pub sparse : length cells ≤ 65 * length made.commit.changes

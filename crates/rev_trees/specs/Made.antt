@@ -7,7 +7,7 @@ use Rattle.rev_nodes.specs.declared.unfit.Unfit.TheVariants.{NoNode, IsRoot, Exi
 use Rattle.rev_nodes.specs.Trees.{Tree}
 use Rattle.rev_nodes.specs.ChangedPaths.{changed_paths}
 use Rattle.rev_nodes.specs.Fitting.{in_order}
-use Rattle.node_table.specs.Tables.{cell_at, IsSound}
+use Rattle.node_table.specs.Tables.{cell_at, IsSoundTable}
 use Rattle.node_table.specs.Shown.{IsShown}
 use Rattle.tree_edits.specs.Edits.{EditedTree, AreShown}
 use Rattle.rev_trees.specs.declared.push_fault.PushFault.{PushFault}
@@ -24,14 +24,14 @@ fault_of index Exists = faults.Unfit index
 fault_of index NoParent = faults.Unfit index
 fault_of index TooLong = faults.Unfit index
 
--- the edits show the tree that comes of the changes
+-- all changes fit, and the edits show the tree that comes of them, whose places stand in order
 pub record AreDone (read : Result Tree (ℕ × Unfit)) (cells : List Cell) (edits : EditedTree) : Type 0 where
   pub tree : Tree
   pub is : read ≡ Ok tree
   pub shown : AreShown cells edits tree
   pub sorted : IsTrue (in_order tree)
 
--- the edits show what comes of the changes, or this is the first that doesn't fit
+-- the edits show what comes of all changes, or this is the number of the first that doesn't fit; want of memory is free
 abbrev pub AppliesAll : Result Tree (ℕ × Unfit) → List Cell → EditedTree → Result (Unit {0}) PushFault → Type 0
 AppliesAll read cells edits (Ok done) = AreDone read cells edits
 AppliesAll read cells edits (Err (faults.Unfit index)) = (why : Unfit) × (read ≡ Err (index, why))
@@ -44,7 +44,7 @@ pub record IsMade (cells : List Cell) (trees : List Tree) (commit : Commit) (mad
   pub tree : Tree
   pub tree_is : made_of trees commit ≡ Ok tree
   pub changed_is : made.revision.changed ≡ changed_paths commit.changes (youngest trees) tree
-  pub sound : IsSound (cells ++ made.cells.items)
+  pub sound : IsSoundTable (cells ++ made.cells.items)
   pub within : made.revision.root < length (cells ++ made.cells.items)
   pub created : (cell_at (cells ++ made.cells.items) made.revision.root).node.created ≤ length trees
   pub shown : IsShown (cells ++ made.cells.items) made.revision.root tree

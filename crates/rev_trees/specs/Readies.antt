@@ -47,14 +47,14 @@ pub record IsNext (revisions : List Revision) (commit : Commit) (ready : ReadyRe
   pub tree_is : tree_after revisions commit ≡ Ok ready.tree
   pub changed_is : ready.changed ≡ changed_paths commit.changes (youngest_tree revisions) ready.tree
 
--- the next revision, or the first change that doesn't fit, or that there are no more numbers
+-- what is ready is the next revision of the commit, prepared on these trees, which have room for it; or this is the number of the first change that doesn't fit; or there are no more numbers, which is told before any change is tried; want of memory is free
 abbrev pub Prepares : Commit → Forest → Forest → Result ReadyRevision PushFault → Type 0
 Prepares commit old new (Ok ready) = (length old.revisions ≤ 2000000000) × IsReadyOn ready new × IsNext (revisions_of old) commit ready
 Prepares commit old new (Err (Unfit index)) = (length old.revisions ≤ 2000000000) × (why : unfit.Unfit) × (tree_after (revisions_of old) commit ≡ Err (index, why))
 Prepares commit old new (Err FullRevisions) = length old.revisions ≡ 2000000001
 Prepares commit old new (Err NoMemory) = length old.revisions ≤ 2000000000
 
--- one revision more, and the others as they were; so are the nodes, of which there are at most 65 more for each change
+-- one revision more, which is the one that was ready; the name, the uuid and the other revisions are as they were, and so are the nodes, behind which there are at most 65 more for each change
 pub record Pushes (ready : ReadyRevision) (old : Forest) (new : Forest) : Type 0 where
   pub name : new.name ≡ old.name
   pub uuid : new.uuid ≡ old.uuid

@@ -2,7 +2,7 @@ ghost use Rattle.std.specs.Prelude.{ℕ, ◌≡◌, ◌<◌, ◌≤◌, None, If
 ghost use Rattle.std.specs.List.{filter_map};
 ghost use Rattle.rev_nodes.specs.Trees.{Tree};
 ghost use Rattle.rev_nodes.specs.ChangedPaths.{changed_paths};
-ghost use Rattle.node_table.specs.Tables.{IsSound};
+ghost use Rattle.node_table.specs.Tables.{IsSoundTable};
 ghost use Rattle.node_table.specs.Shown.{IsShown};
 ghost use Rattle.tree_edits.specs.Edits.{AreShown};
 ghost use Rattle.tree_edits.specs.AreEdits.{AreEdits};
@@ -28,7 +28,7 @@ pub fn changed_paths(
     edits: &Edits,
 ) -> Result<List<Changed>, NoMemory>
     requires few { length changes.now ≤ 4294967295 }
-    requires sound { IsSound cells.now }
+    requires sound { IsSoundTable cells.now }
     requires within { root < length cells.now }
     requires are { (rev : ℕ) × AreEdits rev cells.now edits.now }
     ensures { (before : Tree) (after : Tree) → IsShown cells.now root before → AreShown cells.now edits.now after
@@ -47,7 +47,7 @@ fn changed_in(
     root: NodeId,
     edits: &Edits,
 ) -> Result<List<Changed>, NoMemory>
-    requires sound { IsSound cells.now }
+    requires sound { IsSoundTable cells.now }
     requires within { root < length cells.now }
     requires are { (rev : ℕ) × AreEdits rev cells.now edits.now }
     ensures { IfOk result (λ list. list ≡ filter_map (row_between table.now cells.now root edits.now) table.now) }
@@ -65,7 +65,7 @@ fn changed_in(
 
 /// The kind of what a root shows at a path.
 fn kind_before(cells: &[Cell], root: NodeId, path: &Path) -> Option<Kind>
-    requires sound { IsSound cells.now }
+    requires sound { IsSoundTable cells.now }
     requires within { root < length cells.now }
     ensures { result ≡ kind_before cells.now root path.now }
 {

@@ -1,5 +1,5 @@
 ghost use Rattle.std.specs.Prelude.{◌≡◌, ◌-◌, ◌<◌, ◌≤◌, length};
-ghost use Rattle.rev_trees.specs.Kept.{kept_at, root_in, source_in};
+ghost use Rattle.rev_trees.specs.Kept.{kept_at, kept_root, source_in};
 
 use dsv_base::List;
 use rev_nodes::{Change, Changed, Commit, NodeId};
@@ -45,7 +45,7 @@ pub fn source_root(revisions: &[KeptRevision], change: &Change) -> Option<NodeId
 
 /// The root of the revision of a number, if there is one.
 fn root_of(revisions: &[KeptRevision], rev: usize) -> Option<NodeId>
-    ensures { result ≡ root_in revisions.now rev }
+    ensures { result ≡ kept_root revisions.now rev }
 {
     if rev < revisions.len() {
         return Some(revision_of(revisions, rev).root);

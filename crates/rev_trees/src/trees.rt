@@ -59,7 +59,7 @@ impl Trees {
         let name = Bytes::of(alloc, name)?;
         let uuid = Bytes::of(alloc, uuid)?;
         let mut table = Table::new(alloc);
-        let root = table.add_root(alloc, zeroth())?;
+        let root = table.add_root(zeroth())?;
         let revisions = first_revisions(alloc, first, root)?;
         Ok(Trees {
             alloc,

@@ -13,17 +13,18 @@ use Rattle.rev_nodes.specs.Changes.{unfit, apply, marked, without}
 use Rattle.rev_nodes.specs.Fitting.{is_want}
 use Rattle.rev_nodes.proofs.Below.{long}
 use Rattle.rev_nodes.proofs.Forming.{at-without, formed_change}
-use Rattle.node_table.specs.Ways.{Name, are_names, path_at, names_in, is_front}
+use Rattle.rev_nodes.specs.Subtrees.{path_below}
+use Rattle.node_table.specs.Ways.{Name, are_names, names_in, is_front}
 use Rattle.node_table.specs.Tables.{cell_at}
 use Rattle.node_table.specs.Rebuilt.{stamped}
 use Rattle.node_table.specs.Steps.{AreSources, HasSource}
 use Rattle.node_table.proofs.Ways.{names-append}
 use Rattle.node_table.proofs.PathNames.{names_of_path}
 use Rattle.node_table.proofs.Fronts.{under-front, front-more, front-append}
-use Rattle.tree_edits.specs.Edits.{Held, Touched, EditedTree, touched_at, held_in, or_touched, held_from, held_root, held, shown_node, shown, AreShown}
+use Rattle.tree_edits.specs.Edits.{Held, Touched, EditedTree, touched_at, held_in, or_touched, held_from, held_root, held, held_node, shown, AreShown}
 use Rattle.tree_edits.specs.AreEdits.{AreEdits}
 use Rattle.tree_edits.specs.Hanging.{is_below, cleared, hung_in, hung_at}
-use Rattle.tree_edits.specs.Applied.{IsDone, Does}
+use Rattle.tree_edits.specs.Applied.{IsChangeDone, Does}
 use Rattle.tree_edits.proofs.Views.{over_shown}
 use Rattle.tree_edits.proofs.Kept.{gone_fits}
 use Rattle.tree_edits.proofs.Clearing.{still_there, cleared_kept, none_touched}
@@ -57,7 +58,7 @@ module _ (r : ℕ) (cells : List Cell) (old new : EditedTree) (mid : Touched) (a
   named : are_names way ≡ true
   named = (names_of_path path one).names
 
-  path_is : path_at root_text way ≡ path
+  path_is : path_below root_text way ≡ path
   path_is = (names_of_path path one).path
 
   clean_are : AreEdits r cells clean
@@ -70,18 +71,18 @@ module _ (r : ℕ) (cells : List Cell) (old new : EditedTree) (mid : Touched) (a
   hung2 = ap (λ o. hung_in r cells None (cleared path old.touched) root_text o way) roots ∙ hung_cleared r cells None path one other way [] old.touched root_text (held_root cells old) mid named refl refl path_is are.touched.sorted hung ∙ ap (λ t. Some t) (sym new_is)
 
   are_gone : AreEdits r cells new
-  are_gone = are_new r cells clean new clean_are path one None root_is hung2 (λ t here a p is below. gone_fits cells are.sound r t (path_at root_text way) here p (λ none. not_none path other (ap parent_text (sym path_is) ∙ none)) (λ q edit e par. none_touched path one other old.touched q edit ((a.placed q edit e).one) (below q edit e par) (par ∙ ap (λ x. Some x) path_is)))
+  are_gone = are_new r cells clean new clean_are path one None root_is hung2 (λ t here a p is below. gone_fits cells are.sound r t (path_below root_text way) here p (λ none. not_none path other (ap parent_text (sym path_is) ∙ none)) (λ q edit e par. none_touched path one other old.touched q edit ((a.placed q edit e).one) (below q edit e par) (par ∙ ap (λ x. Some x) path_is)))
 
   few_gone : length new.touched ≤ length old.touched + 65
   few_gone = let f = few_done r cells clean new clean_are path one None root_is hung2 in let l = length-cleared path old.touched in omega (arith, f, l)
 
   kept_aside : (ns : List Name) → are_names ns ≡ true → is_front way ns ≡ false → shown cells clean ns ≡ shown cells old ns
   kept_aside ns k f =
-      ap (λ o. option_map shown_node (held_from cells (cleared path old.touched) root_text o ns)) roots
-      ∙ ap (option_map shown_node) (same_on cells ns (cleared path old.touched) old.touched root_text (held_root cells old) (λ m ms z g. still_there path old.touched (path_at root_text (m ∷ ms)) (apart (m ∷ ms) z g)) k)
+      ap (λ o. option_map held_node (held_from cells (cleared path old.touched) root_text o ns)) roots
+      ∙ ap (option_map held_node) (same_on cells ns (cleared path old.touched) old.touched root_text (held_root cells old) (λ m ms z g. still_there path old.touched (path_below root_text (m ∷ ms)) (apart (m ∷ ms) z g)) k)
     where
-      apart : (ms : List Name) → are_names ms ≡ true → is_front ms ns ≡ true → is_below (path_at root_text ms) path ≡ false
-      apart ms z g = ap (λ b. not (bytes_eq (path_at root_text ms) path) && b) (ap (is_under (path_at root_text ms)) (sym path_is) ∙ under-front way ms named z ∙ no_front (is_front way ms) refl) ∙ and_false (not (bytes_eq (path_at root_text ms) path))
+      apart : (ms : List Name) → are_names ms ≡ true → is_front ms ns ≡ true → is_below (path_below root_text ms) path ≡ false
+      apart ms z g = ap (λ b. not (bytes_eq (path_below root_text ms) path) && b) (ap (is_under (path_below root_text ms)) (sym path_is) ∙ under-front way ms named z ∙ no_front (is_front way ms) refl) ∙ and_false (not (bytes_eq (path_below root_text ms) path))
         where
           no_front : (b : Bool) → is_front way ms ≡ b → b ≡ false
           no_front false e = refl
@@ -92,17 +93,17 @@ module _ (r : ℕ) (cells : List Cell) (old new : EditedTree) (mid : Touched) (a
               let t : is_front way ns ≡ true = ap (is_front way) whole ∙ front-append way (x.more ++ y.more) in
               absurd (cc (t, f))
 
-  shows_gone : (tree : Tree) → AreShown cells old tree → (ns : List Name) → are_names ns ≡ true → at (path_at root_text ns) (marked r path (without path tree)) ≡ shown cells new ns
-  shows_gone tree is = subst (λ p. (ns : List Name) → are_names ns ≡ true → at (path_at root_text ns) (marked r p (without p tree)) ≡ shown cells new ns) path_is
-      (over_shown r cells None way clean new named root_is hung2 tree (λ ns k f. is.shows ns k ∙ sym (kept_aside ns k f)) (without (path_at root_text way) tree)
+  shows_gone : (tree : Tree) → AreShown cells old tree → (ns : List Name) → are_names ns ≡ true → at (path_below root_text ns) (marked r path (without path tree)) ≡ shown cells new ns
+  shows_gone tree is = subst (λ p. (ns : List Name) → are_names ns ≡ true → at (path_below root_text ns) (marked r p (without p tree)) ≡ shown cells new ns) path_is
+      (over_shown r cells None way clean new named root_is hung2 tree (λ ns k f. is.shows ns k ∙ sym (kept_aside ns k f)) (without (path_below root_text way) tree)
       (sym (ap (option_map (stamped r true)) (gone way named (ap (is_front way) (sym (append-nil way)) ∙ front-append way []))))
       (λ m ms k. sym (gone (way ++ m ∷ ms) (names-append way (m ∷ ms) named k) (front-append way (m ∷ ms))))
-      (λ ns k f. at-without (path_at root_text ns) (path_at root_text way) tree ∙ ap (λ b. cond (not b) (at (path_at root_text ns) tree) None) (under-front way ns named k ∙ f)))
+      (λ ns k f. at-without (path_below root_text ns) (path_below root_text way) tree ∙ ap (λ b. cond (not b) (at (path_below root_text ns) tree) None) (under-front way ns named k ∙ f)))
     where
-      gone : (ns : List Name) → are_names ns ≡ true → is_front way ns ≡ true → at (path_at root_text ns) (without (path_at root_text way) tree) ≡ None
-      gone ns k f = at-without (path_at root_text ns) (path_at root_text way) tree ∙ ap (λ b. cond (not b) (at (path_at root_text ns) tree) None) (under-front way ns named k ∙ f)
+      gone : (ns : List Name) → are_names ns ≡ true → is_front way ns ≡ true → at (path_below root_text ns) (without (path_below root_text way) tree) ≡ None
+      gone ns k f = at-without (path_below root_text ns) (path_below root_text way) tree ∙ ap (λ b. cond (not b) (at (path_below root_text ns) tree) None) (under-front way ns named k ∙ f)
 
-  pub gone_done : (h : Held) → held cells old way ≡ Some h → (from : Option ℕ) → IsDone r (changes.Delete path) cells old new from
+  pub gone_done : (h : Held) → held cells old way ≡ Some h → (from : Option ℕ) → IsChangeDone r (changes.Delete path) cells old new from
   unfolding unfit apply
   gone_done h held_is from = record {
     are = are_gone;

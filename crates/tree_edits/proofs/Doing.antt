@@ -8,12 +8,13 @@ use Rattle.rev_nodes.specs.declared.cell.Cell.{Cell}
 use Rattle.rev_nodes.specs.declared.line.Line.{Line}
 use Rattle.rev_nodes.specs.Trees.{TreeNode, Tree, at, is_dir_kind}
 use Rattle.rev_nodes.specs.Changes.{marked, placed}
-use Rattle.node_table.specs.Ways.{Name, are_names, path_at, names_in}
-use Rattle.node_table.specs.Tables.{cell_at, IsSound}
+use Rattle.rev_nodes.specs.Subtrees.{path_below}
+use Rattle.node_table.specs.Ways.{Name, are_names, names_in}
+use Rattle.node_table.specs.Tables.{cell_at, IsSoundTable}
 use Rattle.node_table.specs.Rebuilt.{stamped}
 use Rattle.node_table.proofs.Ways.{path_at-more, path_at-append, names-append}
 use Rattle.node_table.proofs.PathNames.{names_of_path}
-use Rattle.tree_edits.specs.Edits.{Held, Touched, EditedTree, touched_at, held_in, child_of, or_touched, held_from, held_root, held, shown_node, shown, AreShown}
+use Rattle.tree_edits.specs.Edits.{Held, Touched, EditedTree, touched_at, held_in, child_of, or_touched, held_from, held_root, held, held_node, shown, AreShown}
 use Rattle.tree_edits.specs.AreEdits.{IsHeld, AreTouched, AreEdits}
 use Rattle.tree_edits.specs.Hanging.{marked_held, child_held, with_edit, marked_at, hung_in, hung_at}
 use Rattle.tree_edits.proofs.Lists.{in_order, is_same, order-with, length-with}
@@ -39,7 +40,7 @@ module _ (r : ℕ) (cells : List Cell) (touched : Touched) (a : AreTouched r cel
     pub above : Held
     pub there : touched_at touched path ≡ Some (Some above)
 
-  pub above_touched : (ns : List Name) (n : Name) (ds : List Name) (path : List ℕ) (edit : Option Held) → are_names (n ∷ ns) ≡ true → are_names ds ≡ true → path ≡ path_at root_text ds → touched_at touched (path_at path (n ∷ ns)) ≡ Some edit → IsAbove path
+  pub above_touched : (ns : List Name) (n : Name) (ds : List Name) (path : List ℕ) (edit : Option Held) → are_names (n ∷ ns) ≡ true → are_names ds ≡ true → path ≡ path_below root_text ds → touched_at touched (path_below path (n ∷ ns)) ≡ Some edit → IsAbove path
   above_touched [] n ds path edit k d is e =
       let p = and_parts (is_component n) true k in
       let x = (a.placed (join_text path n) edit e).parents path (ap (λ t. parent_text (join_text t n)) is ∙ parent_at ds n d p.0 ∙ ap Some (sym is)) in
@@ -50,7 +51,7 @@ module _ (r : ℕ) (cells : List Cell) (touched : Touched) (a : AreTouched r cel
       let x = (a.placed (join_text path n) (Some next.above) next.there).parents path (ap (λ t. parent_text (join_text t n)) is ∙ parent_at ds n d p.0 ∙ ap Some (sym is)) in
       record { above = x.above; there = x.there }
 
-  pub touched_held : (ns ds : List Name) (path : List ℕ) (here edit : Option Held) → are_names ns ≡ true → are_names ds ≡ true → path ≡ path_at root_text ds → ((e : Option Held) → touched_at touched path ≡ Some e → e ≡ here) → touched_at touched (path_at path ns) ≡ Some edit → held_from cells touched path here ns ≡ edit
+  pub touched_held : (ns ds : List Name) (path : List ℕ) (here edit : Option Held) → are_names ns ≡ true → are_names ds ≡ true → path ≡ path_below root_text ds → ((e : Option Held) → touched_at touched path ≡ Some e → e ≡ here) → touched_at touched (path_below path ns) ≡ Some edit → held_from cells touched path here ns ≡ edit
   touched_held [] ds path here edit k d is here_is e = sym (here_is edit e)
   touched_held (n ∷ ns) ds path here edit k d is here_is e =
       let p = and_parts (is_component n) (are_names ns) k in
@@ -58,7 +59,7 @@ module _ (r : ℕ) (cells : List Cell) (touched : Touched) (a : AreTouched r cel
       ap (λ o. held_from cells touched path o (n ∷ ns)) (sym (here_is (Some x.above) x.there))
       ∙ touched_held ns (ds ++ n ∷ []) (join_text path n) (child_held cells touched path n x.above) edit p.1 (names_more ds n d p.0) (ap (λ t. join_text t n) is ∙ sym (path_at-more root_text ds n)) (λ o f. sym (ap (λ q. or_touched q (child_of cells n x.above)) f)) e
 
-off_beyond : (q : List ℕ) (ns : List Name) (path : List ℕ) → are_names ns ≡ true → length (path_at path ns) < length q → Off q path ns
+off_beyond : (q : List ℕ) (ns : List Name) (path : List ℕ) → are_names ns ≡ true → length (path_below path ns) < length q → Off q path ns
 off_beyond q [] path k less = longer_apart q path less
 off_beyond q (n ∷ ns) path k less =
     let p = and_parts (is_component n) (are_names ns) k in
@@ -78,7 +79,7 @@ module _ (r : ℕ) (cells : List Cell) (old new : EditedTree) (are : AreEdits r 
   named : are_names way ≡ true
   named = (names_of_path path one).names
 
-  path_is : path_at root_text way ≡ path
+  path_is : path_below root_text way ≡ path
   path_is = (names_of_path path one).path
 
   pub few_done : length new.touched ≤ length old.touched + 65
@@ -114,7 +115,7 @@ module _ (r : ℕ) (cells : List Cell) (old new : EditedTree) (are : AreEdits r 
       stands_by None t = refl
       stands_by (Some edit) t = (are.touched.placed root_text edit t).stands parent_root
 
-  pub are_new : Ends cells are.sound r leaf old.touched (path_at root_text way) (held cells old way) → AreEdits r cells new
+  pub are_new : Ends cells are.sound r leaf old.touched (path_below root_text way) (held cells old way) → AreEdits r cells new
   are_new ends = record {
     sound = are.sound;
     within = subst (λ k. k < length cells) (sym root_is) are.within;
@@ -122,62 +123,62 @@ module _ (r : ℕ) (cells : List Cell) (old new : EditedTree) (are : AreEdits r 
     touched = kept_in cells are.sound r leaf way [] old.touched root_text (held_root cells old) new.touched named refl refl (ap is_path path_is ∙ one) are.touched root_place hung ends;
   }
 
-  pub below_kept : (m : Name) (ms : List Name) → are_names (m ∷ ms) ≡ true → touched_at new.touched (path_at (path_at root_text way) (m ∷ ms)) ≡ touched_at old.touched (path_at (path_at root_text way) (m ∷ ms))
+  pub below_kept : (m : Name) (ms : List Name) → are_names (m ∷ ms) ≡ true → touched_at new.touched (path_below (path_below root_text way) (m ∷ ms)) ≡ touched_at old.touched (path_below (path_below root_text way) (m ∷ ms))
   below_kept m ms k =
       let p = and_parts (is_component m) (are_names ms) k in
-      let l = longer-join (path_at root_text way) m p.0 in
-      let far = longer_at ms (join_text (path_at root_text way) m) p.1 in
-      off_kept r cells leaf way old.touched root_text (held_root cells old) new.touched (path_at (path_at root_text way) (m ∷ ms)) hung (off_beyond (path_at (path_at root_text way) (m ∷ ms)) way root_text named (omega (arith, l, far)))
+      let l = longer-join (path_below root_text way) m p.0 in
+      let far = longer_at ms (join_text (path_below root_text way) m) p.1 in
+      off_kept r cells leaf way old.touched root_text (held_root cells old) new.touched (path_below (path_below root_text way) (m ∷ ms)) hung (off_beyond (path_below (path_below root_text way) (m ∷ ms)) way root_text named (omega (arith, l, far)))
 
-  pub found_is : (tree : Tree) → AreShown cells old tree → at path tree ≡ option_map shown_node (held cells old way)
+  pub found_is : (tree : Tree) → AreShown cells old tree → at path tree ≡ option_map held_node (held cells old way)
   found_is tree is = ap (λ p. at p tree) (sym path_is) ∙ is.shows way named
 
-  at_below : (tree : Tree) → AreShown cells old tree → (m : Name) (ms : List Name) → are_names (m ∷ ms) ≡ true → at (path_at root_text (way ++ m ∷ ms)) tree ≡ option_map shown_node (held_from cells old.touched (path_at root_text way) (held cells old way) (m ∷ ms))
-  at_below tree is m ms k = is.shows (way ++ m ∷ ms) (names-append way (m ∷ ms) named k) ∙ ap (option_map shown_node) (held-append cells old.touched way root_text (held_root cells old) (m ∷ ms))
+  at_below : (tree : Tree) → AreShown cells old tree → (m : Name) (ms : List Name) → are_names (m ∷ ms) ≡ true → at (path_below root_text (way ++ m ∷ ms)) tree ≡ option_map held_node (held_from cells old.touched (path_below root_text way) (held cells old way) (m ∷ ms))
+  at_below tree is m ms k = is.shows (way ++ m ∷ ms) (names-append way (m ∷ ms) named k) ∙ ap (option_map held_node) (held-append cells old.touched way root_text (held_root cells old) (m ∷ ms))
 
   abbrev pub Shows : Tree → Type 0
-  Shows tree = (ns : List Name) → are_names ns ≡ true → at (path_at root_text ns) tree ≡ shown cells new ns
+  Shows tree = (ns : List Name) → are_names ns ≡ true → at (path_below root_text ns) tree ≡ shown cells new ns
 
   -- in place
   module _ (h h2 : Held) (held_is : held cells old way ≡ Some h) (leaf_is : leaf ≡ Some h2) (line : h2.line ≡ h.line) (under : h2.under ≡ h.under) where
     pub are_over : h2.node.kind ≡ h.node.kind → h2.node.created ≡ r → AreEdits r cells new
-    are_over kind created = are_new (λ t here a p is below. subst (EditFits r cells t (path_at root_text way)) (sym leaf_is) (place_fits cells are.sound r t (path_at root_text way) h h2 a (subst (IsPlace r cells t (path_at root_text way)) (is ∙ held_is) p) line under kind created))
+    are_over kind created = are_new (λ t here a p is below. subst (EditFits r cells t (path_below root_text way)) (sym leaf_is) (place_fits cells are.sound r t (path_below root_text way) h h2 a (subst (IsPlace r cells t (path_below root_text way)) (is ∙ held_is) p) line under kind created))
 
-    pub shows_over : (tree : Tree) → AreShown cells old tree → (x : TreeNode) → shown_node h2 ≡ stamped r true x → Shows (marked r path (placed path x tree))
+    pub shows_over : (tree : Tree) → AreShown cells old tree → (x : TreeNode) → held_node h2 ≡ stamped r true x → Shows (marked r path (placed path x tree))
     shows_over tree is x x_is = subst (λ p. Shows (marked r p (placed p x tree))) path_is (placed_shown r cells leaf way old new named root_is hung tree (λ ns k f. is.shows ns k) x
-        (ap (option_map shown_node) leaf_is ∙ ap (λ (y : TreeNode). Some y) x_is)
+        (ap (option_map held_node) leaf_is ∙ ap (λ (y : TreeNode). Some y) x_is)
         (λ m ms k.
-        ap (λ o. option_map shown_node (held_from cells new.touched (path_at root_text way) o (m ∷ ms))) leaf_is
-        ∙ ap (λ (u : Option ℕ). option_map shown_node (held_from cells new.touched (path_at root_text way) (Some (record { node = h2.node; line = h2.line; under = u })) (m ∷ ms))) under
-        ∙ ap (λ (l : Line). option_map shown_node (held_from cells new.touched (path_at root_text way) (Some (record { node = h2.node; line = l; under = h.under })) (m ∷ ms))) line
-        ∙ ap (option_map shown_node) (same_below cells (m ∷ ms) new.touched old.touched (path_at root_text way) (Some (record { node = h2.node; line = h.line; under = h.under })) below_kept k)
-        ∙ sym (at_below tree is m ms k ∙ ap (λ o. option_map shown_node (held_from cells old.touched (path_at root_text way) o (m ∷ ms))) held_is)))
+        ap (λ o. option_map held_node (held_from cells new.touched (path_below root_text way) o (m ∷ ms))) leaf_is
+        ∙ ap (λ (u : Option ℕ). option_map held_node (held_from cells new.touched (path_below root_text way) (Some (record { node = h2.node; line = h2.line; under = u })) (m ∷ ms))) under
+        ∙ ap (λ (l : Line). option_map held_node (held_from cells new.touched (path_below root_text way) (Some (record { node = h2.node; line = l; under = h.under })) (m ∷ ms))) line
+        ∙ ap (option_map held_node) (same_below cells (m ∷ ms) new.touched old.touched (path_below root_text way) (Some (record { node = h2.node; line = h.line; under = h.under })) below_kept k)
+        ∙ sym (at_below tree is m ms k ∙ ap (λ o. option_map held_node (held_from cells old.touched (path_below root_text way) o (m ∷ ms))) held_is)))
 
   -- where nothing stands
   module _ (x : Held) (held_is : held cells old way ≡ None) (leaf_is : leaf ≡ Some x) where
     pub are_fresh : IsHeld r cells x → x.line.since ≡ r → AreEdits r cells new
-    are_fresh fits begins = are_new (λ t here a p is below. subst (EditFits r cells t (path_at root_text way)) (sym leaf_is) (fresh_fits cells are.sound r t (path_at root_text way) x a (subst (IsPlace r cells t (path_at root_text way)) (is ∙ held_is) p) fits begins))
+    are_fresh fits begins = are_new (λ t here a p is below. subst (EditFits r cells t (path_below root_text way)) (sym leaf_is) (fresh_fits cells are.sound r t (path_below root_text way) x a (subst (IsPlace r cells t (path_below root_text way)) (is ∙ held_is) p) fits begins))
 
-    untouched_by : (m : Name) → is_component m ≡ true → (o : Option (Option Held)) → touched_at old.touched (join_text (path_at root_text way) m) ≡ o → o ≡ None
+    untouched_by : (m : Name) → is_component m ≡ true → (o : Option (Option Held)) → touched_at old.touched (join_text (path_below root_text way) m) ≡ o → o ≡ None
     untouched_by m k None t = refl
     untouched_by m k (Some edit) t =
-        let d = (are.touched.placed (join_text (path_at root_text way) m) edit t).parents (path_at root_text way) (parent_at way m named k) in
+        let d = (are.touched.placed (join_text (path_below root_text way) m) edit t).parents (path_below root_text way) (parent_at way m named k) in
         let s = touched_held r cells old.touched are.touched way [] root_text (held_root cells old) (Some d.above) named refl refl root_touched d.there in
         absurd (let c = sym s ∙ held_is in cc c)
 
-    pub untouched : (m : Name) → is_component m ≡ true → touched_at old.touched (join_text (path_at root_text way) m) ≡ None
-    untouched m k = untouched_by m k (touched_at old.touched (join_text (path_at root_text way) m)) refl
+    pub untouched : (m : Name) → is_component m ≡ true → touched_at old.touched (join_text (path_below root_text way) m) ≡ None
+    untouched m k = untouched_by m k (touched_at old.touched (join_text (path_below root_text way) m)) refl
 
-    pub none_there : (tree : Tree) → AreShown cells old tree → (m : Name) (ms : List Name) → are_names (m ∷ ms) ≡ true → at (path_at root_text (way ++ m ∷ ms)) tree ≡ None
-    none_there tree is m ms k = at_below tree is m ms k ∙ ap (λ o. option_map shown_node (held_from cells old.touched (path_at root_text way) o (m ∷ ms))) held_is
+    pub none_there : (tree : Tree) → AreShown cells old tree → (m : Name) (ms : List Name) → are_names (m ∷ ms) ≡ true → at (path_below root_text (way ++ m ∷ ms)) tree ≡ None
+    none_there tree is m ms k = at_below tree is m ms k ∙ ap (λ o. option_map held_node (held_from cells old.touched (path_below root_text way) o (m ∷ ms))) held_is
 
-    pub shows_fresh : x.under ≡ None → (tree : Tree) → AreShown cells old tree → (y : TreeNode) → shown_node x ≡ stamped r true y → Shows (marked r path (placed path y tree))
+    pub shows_fresh : x.under ≡ None → (tree : Tree) → AreShown cells old tree → (y : TreeNode) → held_node x ≡ stamped r true y → Shows (marked r path (placed path y tree))
     shows_fresh empty tree is y y_is = subst (λ p. Shows (marked r p (placed p y tree))) path_is (placed_shown r cells leaf way old new named root_is hung tree (λ ns k f. is.shows ns k) y
-        (ap (option_map shown_node) leaf_is ∙ ap (λ (z : TreeNode). Some z) y_is)
+        (ap (option_map held_node) leaf_is ∙ ap (λ (z : TreeNode). Some z) y_is)
         (λ m ms k.
         let p = and_parts (is_component m) (are_names ms) k in
-        ap (λ o. option_map shown_node (held_from cells new.touched (path_at root_text way) o (m ∷ ms))) leaf_is
-        ∙ ap (λ (u : Option ℕ). option_map shown_node (held_from cells new.touched (path_at root_text way) (Some (record { node = x.node; line = x.line; under = u })) (m ∷ ms))) empty
-        ∙ ap (λ o. option_map shown_node (held_from cells new.touched (join_text (path_at root_text way) m) (or_touched o None) ms)) (below_kept m [] (and_from (is_component m) true p.0 refl) ∙ untouched m p.0)
-        ∙ ap (option_map shown_node) (none_from cells new.touched (join_text (path_at root_text way) m) ms)
+        ap (λ o. option_map held_node (held_from cells new.touched (path_below root_text way) o (m ∷ ms))) leaf_is
+        ∙ ap (λ (u : Option ℕ). option_map held_node (held_from cells new.touched (path_below root_text way) (Some (record { node = x.node; line = x.line; under = u })) (m ∷ ms))) empty
+        ∙ ap (λ o. option_map held_node (held_from cells new.touched (join_text (path_below root_text way) m) (or_touched o None) ms)) (below_kept m [] (and_from (is_component m) true p.0 refl) ∙ untouched m p.0)
+        ∙ ap (option_map held_node) (none_from cells new.touched (join_text (path_below root_text way) m) ms)
         ∙ sym (none_there tree is m ms k)))

@@ -9,10 +9,11 @@ use Rattle.rev_nodes.specs.declared.cell.Cell.{Cell}
 use Rattle.rev_nodes.specs.Trees.{is_dir_kind}
 use Rattle.rev_nodes.proofs.Below.{equal_itself}
 use Rattle.rev_nodes.proofs.Forming.{tied}
-use Rattle.node_table.specs.Ways.{Name, are_names, path_at, is_front}
+use Rattle.rev_nodes.specs.Subtrees.{path_below}
+use Rattle.node_table.specs.Ways.{Name, are_names, is_front}
 use Rattle.node_table.proofs.Ways.{path_at-more, path_at-append, names-append}
 use Rattle.node_table.proofs.Fronts.{under-front, front-more, front-append, IsMore}
-use Rattle.tree_edits.specs.Edits.{Held, Touched, EditedTree, touched_at, child_of, or_touched, held_from, held_root, shown_node, shown}
+use Rattle.tree_edits.specs.Edits.{Held, Touched, EditedTree, touched_at, child_of, or_touched, held_from, held_root, held_node, shown}
 use Rattle.tree_edits.specs.Hanging.{marked_held, child_held, with_edit, marked_at, is_below, cleared, hung_in}
 use Rattle.tree_edits.proofs.Lists.{in_order, is_same, touched-with, order-with, order-cleared, same_lists}
 use Rattle.tree_edits.proofs.Texts.{names_more, longer-join, front_is_path}
@@ -44,7 +45,7 @@ module _ (r : ℕ) (cells : List Cell) (leaf : Option Held) (path : List ℕ) (o
       by true e = absurd (let l = longer_below path one other q q_one e in omega (arith, l, less))
       by false e = refl
 
-  pub hung_cleared : (ns ds : List Name) (touched : Touched) (at_ : List ℕ) (here : Option Held) (new : Touched) → are_names ns ≡ true → are_names ds ≡ true → at_ ≡ path_at root_text ds → path_at at_ ns ≡ path → in_order touched ≡ true → hung_in r cells leaf touched at_ here ns ≡ Some new → hung_in r cells leaf (cleared path touched) at_ here ns ≡ Some (cleared path new)
+  pub hung_cleared : (ns ds : List Name) (touched : Touched) (at_ : List ℕ) (here : Option Held) (new : Touched) → are_names ns ≡ true → are_names ds ≡ true → at_ ≡ path_below root_text ds → path_below at_ ns ≡ path → in_order touched ≡ true → hung_in r cells leaf touched at_ here ns ≡ Some new → hung_in r cells leaf (cleared path touched) at_ here ns ≡ Some (cleared path new)
   hung_cleared [] ds touched at_ here new k d is end_ sorted e =
       let s : with_edit at_ leaf touched ≡ new = cc in
       ap (λ t. Some t) (sym (put_cleared path at_ leaf touched sorted (short_apart at_ (ap is_path end_ ∙ one) (let l = ap length end_ in omega (arith, l)))) ∙ ap (cleared path) s)
@@ -52,10 +53,10 @@ module _ (r : ℕ) (cells : List Cell) (leaf : Option Held) (path : List ℕ) (o
   hung_cleared (n ∷ ns) ds touched at_ (Some h) new k d is end_ sorted e =
       let p = and_parts (is_component n) (are_names ns) k in
       let s = stepped r cells leaf touched at_ h n ns new e in
-      let whole : path ≡ path_at root_text (ds ++ n ∷ ns) = sym end_ ∙ ap (λ t. path_at t (n ∷ ns)) is ∙ sym (path_at-append root_text ds (n ∷ ns)) in
+      let whole : path ≡ path_below root_text (ds ++ n ∷ ns) = sym end_ ∙ ap (λ t. path_below t (n ∷ ns)) is ∙ sym (path_at-append root_text ds (n ∷ ns)) in
       let at_one : is_path at_ ≡ true = ap is_path is ∙ front_is_path ds (n ∷ ns) d k (ap is_path (sym whole) ∙ one) in
-      let at_next : join_text at_ n ≡ path_at root_text (ds ++ n ∷ []) = ap (λ t. join_text t n) is ∙ sym (path_at-more root_text ds n) in
-      let next_one : is_path (join_text at_ n) ≡ true = ap is_path at_next ∙ front_is_path (ds ++ n ∷ []) ns (names_more ds n d p.0) p.1 (ap (λ xs. is_path (path_at root_text xs)) (append_assoc ds (n ∷ []) ns) ∙ ap is_path (sym whole) ∙ one) in
+      let at_next : join_text at_ n ≡ path_below root_text (ds ++ n ∷ []) = ap (λ t. join_text t n) is ∙ sym (path_at-more root_text ds n) in
+      let next_one : is_path (join_text at_ n) ≡ true = ap is_path at_next ∙ front_is_path (ds ++ n ∷ []) ns (names_more ds n d p.0) p.1 (ap (λ xs. is_path (path_below root_text xs)) (append_assoc ds (n ∷ []) ns) ∙ ap is_path (sym whole) ∙ one) in
       let l = ap length end_ in
       let far = longer_at (n ∷ ns) at_ k in
       let far2 = longer_at ns (join_text at_ n) p.1 in
@@ -69,7 +70,7 @@ module _ (r : ℕ) (cells : List Cell) (leaf : Option Held) (path : List ℕ) (o
 -- ---- aside of the path nothing is changed
 
 module _ (cells : List Cell) where
-  pub same_on : (ns : List Name) (new old : Touched) (path : List ℕ) (here : Option Held) → ((m : Name) (ms : List Name) → are_names (m ∷ ms) ≡ true → is_front (m ∷ ms) ns ≡ true → touched_at new (path_at path (m ∷ ms)) ≡ touched_at old (path_at path (m ∷ ms))) → are_names ns ≡ true → held_from cells new path here ns ≡ held_from cells old path here ns
+  pub same_on : (ns : List Name) (new old : Touched) (path : List ℕ) (here : Option Held) → ((m : Name) (ms : List Name) → are_names (m ∷ ms) ≡ true → is_front (m ∷ ms) ns ≡ true → touched_at new (path_below path (m ∷ ms)) ≡ touched_at old (path_below path (m ∷ ms))) → are_names ns ≡ true → held_from cells new path here ns ≡ held_from cells old path here ns
   same_on [] new old path here each k = refl
   same_on (n ∷ ns) new old path None each k = refl
   same_on (n ∷ ns) new old path (Some here) each k =

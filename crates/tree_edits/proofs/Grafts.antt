@@ -16,8 +16,9 @@ use Rattle.rev_nodes.specs.Changes.{has_parent, unfit_new, unfit_copy, or_too_lo
 use Rattle.rev_nodes.specs.Formed.{IsFormed}
 use Rattle.rev_nodes.specs.Fitting.{in_order, is_want}
 use Rattle.rev_nodes.proofs.Forming.{formed_change}
-use Rattle.node_table.specs.Ways.{Name, are_names, path_at, names_in}
-use Rattle.node_table.specs.Tables.{cell_at, child_in, reach, Spot, spot_in, below_line, walk, node_at, seen, IsSound}
+use Rattle.rev_nodes.specs.Subtrees.{path_below}
+use Rattle.node_table.specs.Ways.{Name, are_names, names_in}
+use Rattle.node_table.specs.Tables.{cell_at, child_in, reach, Spot, spot_in, below_line, walk, spot_node, seen, IsSoundTable}
 use Rattle.node_table.specs.Rebuilt.{stamped, root_spot}
 use Rattle.node_table.specs.Shown.{IsShown, ShowsAll}
 use Rattle.node_table.specs.Limits.{AllFit, HasLong}
@@ -27,7 +28,7 @@ use Rattle.node_table.proofs.PathNames.{names_of_path}
 use Rattle.node_table.proofs.Fronts.{not-root}
 use Rattle.node_table.proofs.Growing.{walk_none, reach_within, younger}
 use Rattle.node_table.proofs.Found.{HasSpot, spot_of, found_as, none_at}
-use Rattle.tree_edits.specs.Edits.{Held, Touched, EditedTree, touched_at, held_in, child_of, or_touched, held_from, held_root, held, shown_node, shown, AreShown}
+use Rattle.tree_edits.specs.Edits.{Held, Touched, EditedTree, touched_at, held_in, child_of, or_touched, held_from, held_root, held, held_node, shown, AreShown}
 use Rattle.tree_edits.specs.AreEdits.{IsHeld, AreEdits}
 use Rattle.tree_edits.specs.Hanging.{copied_held, hung_at, Hangs}
 use Rattle.tree_edits.specs.Applied.{Does}
@@ -39,16 +40,16 @@ use Rattle.tree_edits.proofs.Steps.{same_edits, parent_none, stands_at}
 
 -- ---- below a place under which nothing was touched, the table's tree is shown
 
-pub held_seen : (cells : List Cell) (ns : List Name) (touched : Touched) (path : List ℕ) (line : Line) (id : ℕ) → ((m : Name) (ms : List Name) → are_names (m ∷ ms) ≡ true → touched_at touched (path_at path (m ∷ ms)) ≡ None) → are_names ns ≡ true → option_map shown_node (held_from cells touched path (Some (held_in cells line id)) ns) ≡ seen cells (Some (record { id = id; line = line })) ns
+pub held_seen : (cells : List Cell) (ns : List Name) (touched : Touched) (path : List ℕ) (line : Line) (id : ℕ) → ((m : Name) (ms : List Name) → are_names (m ∷ ms) ≡ true → touched_at touched (path_below path (m ∷ ms)) ≡ None) → are_names ns ≡ true → option_map held_node (held_from cells touched path (Some (held_in cells line id)) ns) ≡ seen cells (Some (record { id = id; line = line })) ns
 held_seen cells [] touched path line id none k = refl
 held_seen cells (n ∷ ns) touched path line id none k =
     let p = and_parts (is_component n) (are_names ns) k in
-    ap (λ o. option_map shown_node (held_from cells touched (join_text path n) (or_touched o (child_of cells n (held_in cells line id))) ns)) (none n [] (and_from (is_component n) true p.0 refl))
+    ap (λ o. option_map held_node (held_from cells touched (join_text path n) (or_touched o (child_of cells n (held_in cells line id))) ns)) (none n [] (and_from (is_component n) true p.0 refl))
     ∙ by (child_in cells n id) (λ i. held_seen cells ns touched (join_text path n) (below_line line n (cell_at cells i).line) i (λ m ms z. none n (m ∷ ms) (and_from (is_component n) (are_names (m ∷ ms)) p.0 z)) p.1)
   where
-    by : (o : Option ℕ) → ((i : ℕ) → option_map shown_node (held_from cells touched (join_text path n) (Some (held_in cells (below_line line n (cell_at cells i).line) i)) ns) ≡ seen cells (Some (record { id = i; line = below_line line n (cell_at cells i).line })) ns)
-        → option_map shown_node (held_from cells touched (join_text path n) (option_map (λ i. held_in cells (below_line line n (cell_at cells i).line) i) o) ns) ≡ seen cells (option_map (spot_in cells line n) o) ns
-    by None go = ap (option_map shown_node) (none_from cells touched (join_text path n) ns) ∙ sym (ap (option_map (node_at cells)) (walk_none cells ns))
+    by : (o : Option ℕ) → ((i : ℕ) → option_map held_node (held_from cells touched (join_text path n) (Some (held_in cells (below_line line n (cell_at cells i).line) i)) ns) ≡ seen cells (Some (record { id = i; line = below_line line n (cell_at cells i).line })) ns)
+        → option_map held_node (held_from cells touched (join_text path n) (option_map (λ i. held_in cells (below_line line n (cell_at cells i).line) i) o) ns) ≡ seen cells (option_map (spot_in cells line n) o) ns
+    by None go = ap (option_map held_node) (none_from cells touched (join_text path n) ns) ∙ sym (ap (option_map (spot_node cells)) (walk_none cells ns))
     by (Some i) go = go i
 
 -- ---- what a copy shows
@@ -61,13 +62,13 @@ module _ (r : ℕ) (cells : List Cell) (old new : EditedTree) (are : AreEdits r 
   named : are_names way ≡ true
   named = (names_of_path path one).names
 
-  untouched_below : (m : Name) (ms : List Name) → are_names (m ∷ ms) ≡ true → touched_at new.touched (path_at (path_at root_text way) (m ∷ ms)) ≡ None
-  untouched_below m ms k = below_kept r cells old new are path one (Some x) root_is hung m ms k ∙ by (touched_at old.touched (path_at (path_at root_text way) (m ∷ ms))) refl
+  untouched_below : (m : Name) (ms : List Name) → are_names (m ∷ ms) ≡ true → touched_at new.touched (path_below (path_below root_text way) (m ∷ ms)) ≡ None
+  untouched_below m ms k = below_kept r cells old new are path one (Some x) root_is hung m ms k ∙ by (touched_at old.touched (path_below (path_below root_text way) (m ∷ ms))) refl
     where
-      by : (o : Option (Option Held)) → touched_at old.touched (path_at (path_at root_text way) (m ∷ ms)) ≡ o → o ≡ None
+      by : (o : Option (Option Held)) → touched_at old.touched (path_below (path_below root_text way) (m ∷ ms)) ≡ o → o ≡ None
       by None t = refl
       by (Some edit) t =
-          let d = above_touched r cells old.touched are.touched ms m way (path_at root_text way) edit k named refl t in
+          let d = above_touched r cells old.touched are.touched ms m way (path_below root_text way) edit k named refl t in
           let s = touched_held r cells old.touched are.touched way [] root_text (held_root cells old) (Some d.above) named refl refl (root_touched r cells old new are path one (Some x) root_is hung) d.there in
           absurd (let c = sym s ∙ held_is in cc c)
 
@@ -80,41 +81,41 @@ module _ (r : ℕ) (cells : List Cell) (old new : EditedTree) (are : AreEdits r 
     file = λ i e d. subst (λ k. (cell_at cells k).entries ≡ []) (let u : id ≡ i = cc in u) ((are.sound id).file d);
   })
 
-  module _ (from_root : ℕ) (there : reach cells (Some from_root) (names_in source) ≡ Some id) (from : Tree) (from_shown : ShowsAll cells from_root from) (sorted : in_order from ≡ true) (from_formed : IsFormed from) (tree : Tree) (is : AreShown cells old tree) (other : bytes_eq (path_at root_text (names_in path)) root_text ≡ false) (fits : are_paths (copied source rev (path_at root_text (names_in path)) r from) ≡ true) where
+  module _ (from_root : ℕ) (there : reach cells (Some from_root) (names_in source) ≡ Some id) (from : Tree) (from_shown : ShowsAll cells from_root from) (sorted : in_order from ≡ true) (from_formed : IsFormed from) (tree : Tree) (is : AreShown cells old tree) (other : bytes_eq (path_below root_text (names_in path)) root_text ≡ false) (fits : are_paths (copied source rev (path_below root_text (names_in path)) r from) ≡ true) where
     place : HasSpot cells from_root (names_in source) id
     place = spot_of cells from_root (names_in source) id there
 
-    from_seen : (ms : List Name) → are_names ms ≡ true → at (path_at source ms) from ≡ seen cells (Some place.spot) ms
+    from_seen : (ms : List Name) → are_names ms ≡ true → at (path_below source ms) from ≡ seen cells (Some place.spot) ms
     from_seen ms k =
         let n = names_of_path source source_one in
-        ap (λ p. at p from) (ap (λ s. path_at s ms) (sym n.path) ∙ sym (path_at-append root_text (names_in source) ms))
+        ap (λ p. at p from) (ap (λ s. path_below s ms) (sym n.path) ∙ sym (path_at-append root_text (names_in source) ms))
         ∙ from_shown (names_in source ++ ms) (names-append (names_in source) ms n.names k)
-        ∙ ap (option_map (node_at cells)) (walk-append cells (Some (root_spot cells from_root)) (names_in source) ms ∙ ap (λ o. walk cells o ms) place.is)
+        ∙ ap (option_map (spot_node cells)) (walk-append cells (Some (root_spot cells from_root)) (names_in source) ms ∙ ap (λ o. walk cells o ms) place.is)
 
     spot_seen : (ms : List Name) → seen cells (Some (record { id = id; line = place.spot.line })) ms ≡ seen cells (Some place.spot) ms
     spot_seen ms = ap (λ (k : ℕ). seen cells (Some (record { id = k; line = place.spot.line })) ms) (sym place.id_is)
 
-    none_here : (ms : List Name) → are_names ms ≡ true → at (path_at root_text (way ++ ms)) tree ≡ None
-    none_here [] k = ap (λ ws. at (path_at root_text ws) tree) (append-nil way) ∙ is.shows way named ∙ ap (option_map shown_node) held_is
+    none_here : (ms : List Name) → are_names ms ≡ true → at (path_below root_text (way ++ ms)) tree ≡ None
+    none_here [] k = ap (λ ws. at (path_below root_text ws) tree) (append-nil way) ∙ is.shows way named ∙ ap (option_map held_node) held_is
     none_here (m ∷ ms) k = none_there r cells old new are path one (Some x) root_is hung x held_is refl tree is m ms k
 
-    pub shows_copy : (ns : List Name) → are_names ns ≡ true → at (path_at root_text ns) (marked r (path_at root_text way) (all_placed (copied source rev (path_at root_text way) r from) tree)) ≡ shown cells new ns
-    shows_copy = over_shown r cells (Some x) way old new named root_is hung tree (λ ns k f. is.shows ns k) (all_placed (copied source rev (path_at root_text way) r from) tree)
-        (ap (λ (h : Held). let o : Option TreeNode = Some (shown_node h) in o) x_is
+    pub shows_copy : (ns : List Name) → are_names ns ≡ true → at (path_below root_text ns) (marked r (path_below root_text way) (all_placed (copied source rev (path_below root_text way) r from) tree)) ≡ shown cells new ns
+    shows_copy = over_shown r cells (Some x) way old new named root_is hung tree (λ ns k f. is.shows ns k) (all_placed (copied source rev (path_below root_text way) r from) tree)
+        (ap (λ (h : Held). let o : Option TreeNode = Some (held_node h) in o) x_is
         ∙ ap (λ (o : Option TreeNode). option_map (stamped r true) (option_map (copied_node rev r source) o)) (sym (from_seen [] refl ∙ sym (spot_seen [])))
-        ∙ ap (option_map (stamped r true)) (sym (over_below source source_one rev r from sorted from_formed way named other fits tree [] refl (none_here [] refl)) ∙ ap (λ ws. at (path_at root_text ws) (all_placed (copied source rev (path_at root_text way) r from) tree)) (append-nil way)))
+        ∙ ap (option_map (stamped r true)) (sym (over_below source source_one rev r from sorted from_formed way named other fits tree [] refl (none_here [] refl)) ∙ ap (λ ws. at (path_below root_text ws) (all_placed (copied source rev (path_below root_text way) r from) tree)) (append-nil way)))
         (λ m ms k.
-        ap (λ (h : Held). option_map shown_node (held_from cells new.touched (path_at root_text way) (Some h) (m ∷ ms))) x_is
-        ∙ held_seen cells (m ∷ ms) new.touched (path_at root_text way) (record { since = r; source = Some (source, rev) }) id untouched_below k
+        ap (λ (h : Held). option_map held_node (held_from cells new.touched (path_below root_text way) (Some h) (m ∷ ms))) x_is
+        ∙ held_seen cells (m ∷ ms) new.touched (path_below root_text way) (record { since = r; source = Some (source, rev) }) id untouched_below k
         ∙ copied_seen cells are.sound r rev (m ∷ ms) id source place.spot.line young
-        ∙ ap (option_map (copied_node rev r (path_at source (m ∷ ms)))) (spot_seen (m ∷ ms) ∙ sym (from_seen (m ∷ ms) k))
+        ∙ ap (option_map (copied_node rev r (path_below source (m ∷ ms)))) (spot_seen (m ∷ ms) ∙ sym (from_seen (m ∷ ms) k))
         ∙ sym (over_below source source_one rev r from sorted from_formed way named other fits tree (m ∷ ms) k (none_here (m ∷ ms) k)))
         (over_aside source source_one rev r from sorted from_formed way named other fits tree)
 
 -- ---- why a copy doesn't fit
 
 -- the source's node is of an earlier revision
-pub earlier_source : (r : ℕ) (cells : List Cell) (from id : ℕ) (names : List Name) → IsSound cells → IsSource r cells from → reach cells (Some from) names ≡ Some id → (cell_at cells id).node.created < r
+pub earlier_source : (r : ℕ) (cells : List Cell) (from id : ℕ) (names : List Name) → IsSoundTable cells → IsSource r cells from → reach cells (Some from) names ≡ Some id → (cell_at cells id).node.created < r
 earlier_source r cells from id names sound s there = let y = younger cells sound names from id there in let e = s.young in omega (arith, y, e)
 
 module _ (rev : ℕ) (source path : List ℕ) (cells : List Cell) (old : EditedTree) (from : ℕ) (trees : List Tree) (tree : Tree) (sources : AreSources trees) (is : AreShown cells old tree) (from_is : IsShown cells from (tree_at trees rev)) (source_one : is_path source ≡ true) where
@@ -146,21 +147,21 @@ module _ (rev : ℕ) (source path : List ℕ) (cells : List Cell) (old : EditedT
       copy_no_parent lacks = unfit_is ∙ ap (λ o. or_too_long o (are_paths (copied source rev path 0 from_tree))) (free_is false lacks)
 
       not_here : {X : Type 0} → names_in path ≡ [] → X
-      not_here e = absurd (let d = sym (ap is_dir (ap (λ p. at p tree) (sym (ap (path_at root_text) e) ∙ (names_of_path path one).path) ∙ gone)) ∙ is.formed.root in cc d)
+      not_here e = absurd (let d = sym (ap is_dir (ap (λ p. at p tree) (sym (ap (path_below root_text) e) ∙ (names_of_path path one).path) ∙ gone)) ∙ is.formed.root in cc d)
 
-      pub other_path : bytes_eq (path_at root_text (names_in path)) root_text ≡ false
+      pub other_path : bytes_eq (path_below root_text (names_in path)) root_text ≡ false
       other_path = by (names_in path) refl
         where
-          by : (ws : List Name) → names_in path ≡ ws → bytes_eq (path_at root_text ws) root_text ≡ false
+          by : (ws : List Name) → names_in path ≡ ws → bytes_eq (path_below root_text ws) root_text ≡ false
           by [] e = not_here e
           by (q ∷ qs) e = not-root q qs (sym (ap are_names e) ∙ (names_of_path path one).names)
 
-      module _ (sound : IsSound cells) where
+      module _ (sound : IsSoundTable cells) where
         fits_by : (ws : List Name) → names_in path ≡ ws → (s : ℕ) → AllFit cells (64 - length (names_in path)) (1024 - length path) id → are_paths (copied source rev path s from_tree) ≡ true
         fits_by [] e s all = not_here e
         fits_by (q ∷ qs) e s all =
             let n = names_of_path path one in
-            let path_is : path ≡ path_at root_text (q ∷ qs) = sym n.path ∙ ap (path_at root_text) e in
+            let path_is : path ≡ path_below root_text (q ∷ qs) = sym n.path ∙ ap (path_below root_text) e in
             let named : are_names (q ∷ qs) ≡ true = sym (ap are_names e) ∙ n.names in
             subst (λ p. are_paths (copied source rev p s from_tree) ≡ true) (sym path_is)
             (paths_fit cells sound from id source source_one there from_tree from_is.shown (sources.sorted rev) from_is.formed rev s q qs named (sym (ap is_path path_is) ∙ one) (not-root q qs named)
@@ -170,7 +171,7 @@ module _ (rev : ℕ) (source path : List ℕ) (cells : List Cell) (old : EditedT
         long_by [] e s long = not_here e
         long_by (q ∷ qs) e s long =
             let n = names_of_path path one in
-            let path_is : path ≡ path_at root_text (q ∷ qs) = sym n.path ∙ ap (path_at root_text) e in
+            let path_is : path ≡ path_below root_text (q ∷ qs) = sym n.path ∙ ap (path_below root_text) e in
             let named : are_names (q ∷ qs) ≡ true = sym (ap are_names e) ∙ n.names in
             subst (λ p. are_paths (copied source rev p s from_tree) ≡ false) (sym path_is)
             (path_too_long cells sound from id source source_one there from_tree from_is.shown (sources.sorted rev) from_is.formed rev s q qs named (sym (ap is_path path_is) ∙ one) (not-root q qs named)
@@ -188,7 +189,7 @@ module _ (rev : ℕ) (source path : List ℕ) (cells : List Cell) (old : EditedT
 -- ---- a copy does what it is to do
 
 -- what stands at the parent tells it
-pub parent_held : {parent : List ℕ} {o : Option (List ℕ)} {place : Option Held} (cells : List Cell) (edits : EditedTree) (path : List ℕ) → o ≡ parent_text path → o ≡ Some parent → is_path parent ≡ true → place ≡ held cells edits (names_in parent) → (b : Bool) → is_dir (option_map shown_node place) ≡ b → (tree : Tree) → AreShown cells edits tree → has_parent path tree ≡ b
+pub parent_held : {parent : List ℕ} {o : Option (List ℕ)} {place : Option Held} (cells : List Cell) (edits : EditedTree) (path : List ℕ) → o ≡ parent_text path → o ≡ Some parent → is_path parent ≡ true → place ≡ held cells edits (names_in parent) → (b : Bool) → is_dir (option_map held_node place) ≡ b → (tree : Tree) → AreShown cells edits tree → has_parent path tree ≡ b
 parent_held {parent} {o} {place} cells edits path value some one there b dir tree is =
     ap (λ p. option_map_or (λ q. is_dir (at q tree)) p false) (sym value ∙ some)
     ∙ ap is_dir (stands_at cells edits parent one place (sym there) tree is)
@@ -209,7 +210,7 @@ copy_does r cells old new are from id from_is source source_one rev there path o
       let path_is = (names_of_path path one).path in (
         fits,
         record {
-          shows = subst (λ p. (ns : List Name) → are_names ns ≡ true → at (path_at root_text ns) (marked r p (all_placed (copied source rev p r (tree_at trees rev)) tree)) ≡ shown cells new ns) path_is
+          shows = subst (λ p. (ns : List Name) → are_names ns ≡ true → at (path_below root_text ns) (marked r p (all_placed (copied source rev p r (tree_at trees rev)) tree)) ≡ shown cells new ns) path_is
               (shows_copy r cells old new are path one x root hung held_is source source_one rev id x_is young from there (tree_at trees rev) src.0.shown (sources.sorted rev) src.0.formed tree is
               (other_path rev source path cells old from trees tree sources is src.0 source_one id there one held_is)
               (subst (λ p. are_paths (copied source rev p r (tree_at trees rev)) ≡ true) (sym path_is) (copy_short rev source path cells old from trees tree sources is src.0 source_one id there one held_is are.sound r all)));

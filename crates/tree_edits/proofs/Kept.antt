@@ -11,8 +11,9 @@ use Rattle.rev_nodes.specs.declared.line.Line.{Line}
 use Rattle.rev_nodes.specs.Trees.{is_dir_kind}
 use Rattle.rev_nodes.proofs.Below.{parent_from}
 use Rattle.rev_nodes.proofs.Forming.{tied}
-use Rattle.node_table.specs.Ways.{Name, are_names, path_at}
-use Rattle.node_table.specs.Tables.{cell_at, child_in, below_line, IsSound}
+use Rattle.rev_nodes.specs.Subtrees.{path_below}
+use Rattle.node_table.specs.Ways.{Name, are_names}
+use Rattle.node_table.specs.Tables.{cell_at, child_in, below_line, IsSoundTable}
 use Rattle.node_table.proofs.Ways.{path_at-more, path_at-append, names-append}
 use Rattle.tree_edits.specs.Edits.{Held, Touched, touched_at, held_in, child_of, or_touched, held_from}
 use Rattle.tree_edits.specs.AreEdits.{IsHeld, IsInDir, IsPlaced, AreTouched}
@@ -82,7 +83,7 @@ changed_fits r cells h new k line under kind created = record {
   file = λ id e d. k.file id (sym under ∙ e) (ap is_dir_kind (sym kind) ∙ d);
 }
 
-module _ (cells : List Cell) (sound : IsSound cells) (r : ℕ) where
+module _ (cells : List Cell) (sound : IsSoundTable cells) (r : ℕ) where
   line_between : (above : Line) (n : Name) (own : Line) → above.since ≤ r → own.since ≤ r → ((below_line above n own).since ≤ r) × (above.since ≤ (below_line above n own).since)
   line_between above n own a o = by (nat_le above.since own.since) refl
     where
@@ -262,18 +263,18 @@ module _ (cells : List Cell) (sound : IsSound cells) (r : ℕ) where
   abbrev pub Ends : Option Held → Touched → List ℕ → Option Held → Type 0
   Ends leaf touched end_ held_there = (t : Touched) (here : Option Held) → AreTouched r cells t → IsPlace r cells t end_ here → here ≡ held_there → ((p : List ℕ) (edit : Option Held) → touched_at t p ≡ Some edit → parent_text p ≡ Some end_ → touched_at touched p ≡ Some edit) → EditFits r cells t end_ leaf
 
-  pub kept_in : (leaf : Option Held) (ns ds : List Name) (touched : Touched) (path : List ℕ) (here : Option Held) (new : Touched) → are_names ns ≡ true → are_names ds ≡ true → path ≡ path_at root_text ds → is_path (path_at path ns) ≡ true → AreTouched r cells touched → IsPlace r cells touched path here → hung_in r cells leaf touched path here ns ≡ Some new → Ends leaf touched (path_at path ns) (held_from cells touched path here ns) → AreTouched r cells new
+  pub kept_in : (leaf : Option Held) (ns ds : List Name) (touched : Touched) (path : List ℕ) (here : Option Held) (new : Touched) → are_names ns ≡ true → are_names ds ≡ true → path ≡ path_below root_text ds → is_path (path_below path ns) ≡ true → AreTouched r cells touched → IsPlace r cells touched path here → hung_in r cells leaf touched path here ns ≡ Some new → Ends leaf touched (path_below path ns) (held_from cells touched path here ns) → AreTouched r cells new
   kept_in leaf [] ds touched path here new k d is one a p e ends = subst (AreTouched r cells) (let s : with_edit path leaf touched ≡ new = cc in s) (put_kept touched path leaf a (ends touched here a p refl (λ q edit f par. f)))
   kept_in leaf (n ∷ ns) ds touched path None new k d is one a p e ends = absurd (cc e)
   kept_in leaf (n ∷ ns) ds touched path (Some h) new k d is one a p e ends =
       let q = and_parts (is_component n) (are_names ns) k in
       let s = stepped r cells leaf touched path h n ns new e in
-      let at_next : join_text path n ≡ path_at root_text (ds ++ n ∷ []) = ap (λ t. join_text t n) is ∙ sym (path_at-more root_text ds n) in
-      let next_one : is_path (join_text path n) ≡ true = ap is_path at_next ∙ front_is_path (ds ++ n ∷ []) ns (names_more ds n d q.0) q.1 (ap is_path (path_at-append root_text (ds ++ n ∷ []) ns ∙ ap (λ t. path_at t ns) (sym at_next)) ∙ one) in
+      let at_next : join_text path n ≡ path_below root_text (ds ++ n ∷ []) = ap (λ t. join_text t n) is ∙ sym (path_at-more root_text ds n) in
+      let next_one : is_path (join_text path n) ≡ true = ap is_path at_next ∙ front_is_path (ds ++ n ∷ []) ns (names_more ds n d q.0) q.1 (ap is_path (path_at-append root_text (ds ++ n ∷ []) ns ∙ ap (λ t. path_below t ns) (sym at_next)) ∙ one) in
       let par : parent_text (join_text path n) ≡ Some path = ap (λ t. parent_text (join_text t n)) is ∙ parent_at ds n d q.0 ∙ ap Some (sym is) in
       kept_in leaf ns (ds ++ n ∷ []) (marked_at r path h touched) (join_text path n) (child_held cells (marked_at r path h touched) path n h) new q.1 (names_more ds n d q.0) at_next one (mark_kept touched path h a p) (next_place touched path h n a p s.dir next_one par) s.next
       (λ t here at pt held_is below. ends t here at pt (held_is ∙ unmarked_held touched path h n ns k) (λ x edit f up.
       let l = longer-join path n q.0 in
       let far = longer_at ns (join_text path n) q.1 in
-      let less = shorter_parent x (path_at (join_text path n) ns) ((at.placed x edit f).one) up in
+      let less = shorter_parent x (path_below (join_text path n) ns) ((at.placed x edit f).one) up in
       sym (touched-other x path (Some (marked_held r h)) touched (longer_apart x path (omega (arith, l, far, less)))) ∙ below x edit f up))

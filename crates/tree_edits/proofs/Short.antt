@@ -15,8 +15,9 @@ use Rattle.rev_nodes.specs.Formed.{IsFormed}
 use Rattle.rev_nodes.specs.Fitting.{in_order}
 use Rattle.rev_nodes.proofs.Forming.{later, tied, tied_self}
 use Rattle.rev_nodes.specs.declared.cell.Cell.{Cell}
-use Rattle.node_table.specs.Ways.{Name, are_names, path_at, names_in}
-use Rattle.node_table.specs.Tables.{cell_at, child_in, reach, Spot, walk, node_at, seen, IsSound}
+use Rattle.rev_nodes.specs.Subtrees.{path_below}
+use Rattle.node_table.specs.Ways.{Name, are_names, names_in}
+use Rattle.node_table.specs.Tables.{cell_at, child_in, reach, Spot, walk, spot_node, seen, IsSoundTable}
 use Rattle.node_table.specs.Rebuilt.{root_spot}
 use Rattle.node_table.specs.Shown.{ShowsAll}
 use Rattle.node_table.specs.Limits.{fits, AllFit, HasLong}
@@ -56,10 +57,10 @@ joined-size : (n : Name) (ns : List Name) → suc (length (joined (n ∷ ns))) �
 joined-size n [] = omega arith
 joined-size n (m ∷ ms) = let e = joined-size m ms in let l = length-append n (47 ∷ joined (m ∷ ms)) in omega (arith, e, l)
 
-pub path-size : (n : Name) (ns : List Name) → are_names (n ∷ ns) ≡ true → length (path_at root_text (n ∷ ns)) ≡ size (n ∷ ns)
+pub path-size : (n : Name) (ns : List Name) → are_names (n ∷ ns) ≡ true → length (path_below root_text (n ∷ ns)) ≡ size (n ∷ ns)
 path-size n ns h = ap length (path-joined root_text n ns h) ∙ joined-size n ns
 
-pub is_path_from : (n : Name) (ns : List Name) → are_names (n ∷ ns) ≡ true → length (n ∷ ns) ≤ 64 → size (n ∷ ns) ≤ 1024 → is_path (path_at root_text (n ∷ ns)) ≡ true
+pub is_path_from : (n : Name) (ns : List Name) → are_names (n ∷ ns) ≡ true → length (n ∷ ns) ≤ 64 → size (n ∷ ns) ≤ 1024 → is_path (path_below root_text (n ∷ ns)) ≡ true
 unfolding is_path
 is_path_from n ns h few short =
     let j = joined-size n ns in
@@ -69,9 +70,9 @@ is_path_from n ns h few short =
     (and_from _ _ (ap (λ c. nat_le (length c) 64) parts ∙ le-leb (length (n ∷ ns)) 64 few) (ap (list_all is_component) parts ∙ h)))
 
 -- paths at the ends of ways
-pub path_fit : (q : Name) (qs ms : List Name) → are_names (q ∷ qs) ≡ true → are_names ms ≡ true → is_path (path_at root_text (q ∷ qs)) ≡ true → fits (64 - length (q ∷ qs)) (1024 - length (path_at root_text (q ∷ qs))) ms ≡ true → is_path (path_at root_text ((q ∷ qs) ++ ms)) ≡ true
+pub path_fit : (q : Name) (qs ms : List Name) → are_names (q ∷ qs) ≡ true → are_names ms ≡ true → is_path (path_below root_text (q ∷ qs)) ≡ true → fits (64 - length (q ∷ qs)) (1024 - length (path_below root_text (q ∷ qs))) ms ≡ true → is_path (path_below root_text ((q ∷ qs) ++ ms)) ≡ true
 path_fit q qs ms named k one f =
-    let n = names_of_path (path_at root_text (q ∷ qs)) one in
+    let n = names_of_path (path_below root_text (q ∷ qs)) one in
     let few : length (q ∷ qs) ≤ 64 = subst (λ ws. length ws ≤ 64) (names-back (q ∷ qs) named) n.few in
     let long = path-size q qs named in
     let short = n.short in
@@ -82,17 +83,17 @@ path_fit q qs ms named k one f =
     let s = size-append (q ∷ qs) ms in
     is_path_from q (qs ++ ms) (names-append (q ∷ qs) ms named k) (omega (arith, few, a, l)) (omega (arith, long, short, b, s))
 
-pub path_long : (q : Name) (qs ms : List Name) → are_names (q ∷ qs) ≡ true → are_names ms ≡ true → is_path (path_at root_text (q ∷ qs)) ≡ true → fits (64 - length (q ∷ qs)) (1024 - length (path_at root_text (q ∷ qs))) ms ≡ false → is_path (path_at root_text ((q ∷ qs) ++ ms)) ≡ false
+pub path_long : (q : Name) (qs ms : List Name) → are_names (q ∷ qs) ≡ true → are_names ms ≡ true → is_path (path_below root_text (q ∷ qs)) ≡ true → fits (64 - length (q ∷ qs)) (1024 - length (path_below root_text (q ∷ qs))) ms ≡ false → is_path (path_below root_text ((q ∷ qs) ++ ms)) ≡ false
 path_long q qs ms named k one f = false_from_ne_true _ (λ whole.
     let both = names-append (q ∷ qs) ms named k in
-    let n = names_of_path (path_at root_text ((q ∷ qs) ++ ms)) whole in
+    let n = names_of_path (path_below root_text ((q ∷ qs) ++ ms)) whole in
     let few : length ((q ∷ qs) ++ ms) ≤ 64 = subst (λ ws. length ws ≤ 64) (names-back ((q ∷ qs) ++ ms) both) n.few in
     let short = n.short in
     let long = path-size q qs named in
     let longer = path-size q (qs ++ ms) both in
     let l = length-append (q ∷ qs) ms in
     let s = size-append (q ∷ qs) ms in
-    let t = fits_from (64 - length (q ∷ qs)) (1024 - length (path_at root_text (q ∷ qs))) ms (omega (arith, few, l)) (omega (arith, short, long, longer, s)) in
+    let t = fits_from (64 - length (q ∷ qs)) (1024 - length (path_below root_text (q ∷ qs))) ms (omega (arith, few, l)) (omega (arith, short, long, longer, s)) in
     let g : true ≡ false = sym t ∙ f in cc g)
 
 -- ---- lists of places
@@ -140,7 +141,7 @@ module _ (source : List ℕ) (rev : ℕ) (path : List ℕ) (r : ℕ) where
 
 -- ---- the limit of a copy
 
-reached_names : (cells : List Cell) → IsSound cells → (ns : List Name) (id j : ℕ) → reach cells (Some id) ns ≡ Some j → are_names ns ≡ true
+reached_names : (cells : List Cell) → IsSoundTable cells → (ns : List Name) (id j : ℕ) → reach cells (Some id) ns ≡ Some j → are_names ns ≡ true
 reached_names cells sound [] id j e = refl
 reached_names cells sound (n ∷ ns) id j e = by (child_in cells n id) refl e (λ i. reached_names cells sound ns i j)
   where
@@ -148,43 +149,43 @@ reached_names cells sound (n ∷ ns) id j e = by (child_in cells n id) refl e (�
     by None f g go = absurd (let w = sym (reach_none cells ns) ∙ g in cc w)
     by (Some i) f g go = and_from _ _ ((sound id).children n i f).name (go i g)
 
-module _ (cells : List Cell) (sound : IsSound cells) (from_root id : ℕ) (source : List ℕ) (source_one : is_path source ≡ true) (there : reach cells (Some from_root) (names_in source) ≡ Some id) (from : Tree) (shown : ShowsAll cells from_root from) (sorted : in_order from ≡ true) (formed : IsFormed from)
-    (rev r : ℕ) (q : Name) (qs : List Name) (named : are_names (q ∷ qs) ≡ true) (one : is_path (path_at root_text (q ∷ qs)) ≡ true) (other : bytes_eq (path_at root_text (q ∷ qs)) root_text ≡ false) where
+module _ (cells : List Cell) (sound : IsSoundTable cells) (from_root id : ℕ) (source : List ℕ) (source_one : is_path source ≡ true) (there : reach cells (Some from_root) (names_in source) ≡ Some id) (from : Tree) (shown : ShowsAll cells from_root from) (sorted : in_order from ≡ true) (formed : IsFormed from)
+    (rev r : ℕ) (q : Name) (qs : List Name) (named : are_names (q ∷ qs) ≡ true) (one : is_path (path_below root_text (q ∷ qs)) ≡ true) (other : bytes_eq (path_below root_text (q ∷ qs)) root_text ≡ false) where
   place : HasSpot cells from_root (names_in source) id
   place = spot_of cells from_root (names_in source) id there
 
-  seen_from : (ms : List Name) → are_names ms ≡ true → at (path_at source ms) from ≡ seen cells (Some place.spot) ms
+  seen_from : (ms : List Name) → are_names ms ≡ true → at (path_below source ms) from ≡ seen cells (Some place.spot) ms
   seen_from ms k =
       let n = names_of_path source source_one in
-      ap (λ p. at p from) (ap (λ s. path_at s ms) (sym n.path) ∙ sym (path_at-append root_text (names_in source) ms))
+      ap (λ p. at p from) (ap (λ s. path_below s ms) (sym n.path) ∙ sym (path_at-append root_text (names_in source) ms))
       ∙ shown (names_in source ++ ms) (names-append (names_in source) ms n.names k)
-      ∙ ap (option_map (node_at cells)) (walk-append cells (Some (root_spot cells from_root)) (names_in source) ms ∙ ap (λ o. walk cells o ms) place.is)
+      ∙ ap (option_map (spot_node cells)) (walk-append cells (Some (root_spot cells from_root)) (names_in source) ms ∙ ap (λ o. walk cells o ms) place.is)
 
   reach_is : (ms : List Name) → option_map (λ (s : Spot). s.id) (walk cells (Some place.spot) ms) ≡ reach cells (Some id) ms
   reach_is ms = walk-reach cells ms (Some place.spot) ∙ ap (λ (k : ℕ). reach cells (Some k) ms) place.id_is
 
-  some_reached : (o : Option Spot) → is_some (option_map (node_at cells) o) ≡ true → (j : ℕ) × (option_map (λ (s : Spot). s.id) o ≡ Some j)
+  some_reached : (o : Option Spot) → is_some (option_map (spot_node cells) o) ≡ true → (j : ℕ) × (option_map (λ (s : Spot). s.id) o ≡ Some j)
   some_reached None h = absurd (cc h)
   some_reached (Some s) h = (s.id, refl)
 
-  reached_some : (o : Option Spot) (j : ℕ) → option_map (λ (s : Spot). s.id) o ≡ Some j → is_some (option_map (node_at cells) o) ≡ true
+  reached_some : (o : Option Spot) (j : ℕ) → option_map (λ (s : Spot). s.id) o ≡ Some j → is_some (option_map (spot_node cells) o) ≡ true
   reached_some None j h = absurd (cc h)
   reached_some (Some s) j h = refl
 
-  moved_is : (ms : List Name) → are_names ms ≡ true → moved source (path_at root_text (q ∷ qs)) (path_at source ms) ≡ path_at root_text ((q ∷ qs) ++ ms)
-  moved_is ms k = moved_names source (path_at root_text (q ∷ qs)) ms k other ∙ sym (path_at-append root_text (q ∷ qs) ms)
+  moved_is : (ms : List Name) → are_names ms ≡ true → moved source (path_below root_text (q ∷ qs)) (path_below source ms) ≡ path_below root_text ((q ∷ qs) ++ ms)
+  moved_is ms k = moved_names source (path_below root_text (q ∷ qs)) ms k other ∙ sym (path_at-append root_text (q ∷ qs) ms)
 
-  pub paths_fit : AllFit cells (64 - length (q ∷ qs)) (1024 - length (path_at root_text (q ∷ qs))) id → are_paths (copied source rev (path_at root_text (q ∷ qs)) r from) ≡ true
-  paths_fit all = all_paths source rev (path_at root_text (q ∷ qs)) r from from (own_all from sorted) (λ p some under.
+  pub paths_fit : AllFit cells (64 - length (q ∷ qs)) (1024 - length (path_below root_text (q ∷ qs))) id → are_paths (copied source rev (path_below root_text (q ∷ qs)) r from) ≡ true
+  paths_fit all = all_paths source rev (path_below root_text (q ∷ qs)) r from from (own_all from sorted) (λ p some under.
       let w = way_under source source_one p (formed.paths p some) under in
       let found = some_reached (walk cells (Some place.spot) w.way) (ap is_some (sym (seen_from w.way w.names) ∙ ap (λ t. at t from) (sym w.is)) ∙ some) in
-      ap is_path (ap (moved source (path_at root_text (q ∷ qs))) w.is ∙ moved_is w.way w.names)
+      ap is_path (ap (moved source (path_below root_text (q ∷ qs))) w.is ∙ moved_is w.way w.names)
       ∙ path_fit q qs w.way named w.names one (all w.way found.0 (sym (reach_is w.way) ∙ found.1)))
 
-  pub path_too_long : HasLong cells (64 - length (q ∷ qs)) (1024 - length (path_at root_text (q ∷ qs))) id → are_paths (copied source rev (path_at root_text (q ∷ qs)) r from) ≡ false
+  pub path_too_long : HasLong cells (64 - length (q ∷ qs)) (1024 - length (path_below root_text (q ∷ qs))) id → are_paths (copied source rev (path_below root_text (q ∷ qs)) r from) ≡ false
   path_too_long h =
       let k = reached_names cells sound h.names id h.end_ h.leads in
-      one_long source rev (path_at root_text (q ∷ qs)) r from (path_at source h.names)
+      one_long source rev (path_below root_text (q ∷ qs)) r from (path_below source h.names)
       (ap is_some (seen_from h.names k) ∙ reached_some (walk cells (Some place.spot) h.names) h.end_ (reach_is h.names ∙ h.leads))
       (under-names source h.names k)
       (ap is_path (moved_is h.names k) ∙ path_long q qs h.names named k one h.long)

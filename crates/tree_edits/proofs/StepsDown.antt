@@ -13,7 +13,7 @@ use Rattle.node_table.specs.Ways.{Name, are_names}
 use Rattle.node_table.proofs.PathNames.{IsSplit, split_some}
 use Rattle.tree_edits.specs.Edits.{Held, Touched, touched_at, child_of, or_touched, held_from}
 use Rattle.tree_edits.specs.Rests.{IsRest}
-use Rattle.tree_edits.specs.Reading.{IsUnder, HasUnder, CanRead, IsLast, IsNext}
+use Rattle.tree_edits.specs.Reading.{IsUnder, HasUnder, CanRead, IsLastName, IsNextName}
 use Rattle.tree_edits.specs.Hanging.{marked_held, child_held, with_edit, without_edit, marked_at, hung_in, hung_below, Hangs, stands_dir, IsMarked, Touches, Untouches}
 use Rattle.tree_edits.proofs.Lists.{in_order, is_same, touched-here, touched-with, order-with, put_back, taken_back}
 use Rattle.tree_edits.proofs.Views.{none_from}
@@ -21,7 +21,7 @@ use Rattle.tree_edits.proofs.Views.{none_from}
 -- ---- reading
 
 -- nothing stands where nothing is found at the first name
-pub none_below : (cells : List Cell) (touched : Touched) (text path rest name next after : List ℕ) (above : Held) → IsNext text path rest name next after → None ≡ or_touched (touched_at touched next) (child_of cells name above) → None ≡ held_from cells touched path (Some above) (components rest)
+pub none_below : (cells : List Cell) (touched : Touched) (text path rest name next after : List ℕ) (above : Held) → IsNextName text path rest name next after → None ≡ or_touched (touched_at touched next) (child_of cells name above) → None ≡ held_from cells touched path (Some above) (components rest)
 none_below cells touched text path rest name next after above n none =
     sym (ap (held_from cells touched path (Some above)) n.cut
     ∙ ap (λ t. held_from cells touched (join_text path name) (or_touched (touched_at touched t) (child_of cells name above)) (components after)) (sym n.is)
@@ -81,7 +81,7 @@ module _ (r : ℕ) (cells : List Cell) (leaf : Option Held) where
   no_step touched path None n ns none = refl
   no_step touched path (Some here) n ns none = ap (λ b. if b then hung_in r cells leaf (marked_at r path here touched) (join_text path n) (child_held cells (marked_at r path here touched) path n here) ns else None) none
 
-  module _ (old : Touched) (text path rest name next after : List ℕ) (n : IsNext text path rest name next after) (above : Held) where
+  module _ (old : Touched) (text path rest name next after : List ℕ) (n : IsNextName text path rest name next after) (above : Held) where
     at_next : hung_below r cells leaf old path above (components rest) ≡ hung_in r cells leaf old next (or_touched (touched_at old next) (child_of cells name above)) (components after)
     at_next = ap (hung_below r cells leaf old path above) n.cut ∙ ap (λ t. hung_in r cells leaf old t (or_touched (touched_at old t) (child_of cells name above)) (components after)) (sym n.is)
 

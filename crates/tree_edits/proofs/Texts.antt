@@ -6,7 +6,8 @@ use Rattle.std.proofs.lemmas.Bool.{and_parts, and_from}
 use Rattle.dsv_base.specs.Paths.{is_path, is_component, components, root_text, parent_text, front_of, or_root, before_last_slash, join_text}
 use Rattle.dsv_base.proofs.Joins.{component_slash, component_some, before_last}
 use Rattle.rev_nodes.proofs.Below.{same_from, differ}
-use Rattle.node_table.specs.Ways.{Name, are_names, path_at, names_in}
+use Rattle.rev_nodes.specs.Subtrees.{path_below}
+use Rattle.node_table.specs.Ways.{Name, are_names, names_in}
 use Rattle.node_table.proofs.Ways.{path_at-more, path_at-append, names-append, join-front, some_text, not_root, front-join}
 use Rattle.node_table.proofs.Fronts.{one-way, joined, path-joined, names-back}
 use Rattle.node_table.proofs.PathNames.{names_of_path, split_some, joined-split}
@@ -41,22 +42,22 @@ filled (x ∷ xs) ys = refl
 pub not_joined : (p : List ℕ) (n : Name) → is_component n ≡ true → bytes_eq (join_text p n) root_text ≡ false
 not_joined p n h = differ (join_text p n) root_text (λ e. not_root (front_of p) n (some_text n (component_some n h)) (sym (join-front p n) ∙ e))
 
-root_front : (ms : List Name) → are_names ms ≡ true → or_root (front_of (path_at root_text ms)) ≡ path_at root_text ms
+root_front : (ms : List Name) → are_names ms ≡ true → or_root (front_of (path_below root_text ms)) ≡ path_below root_text ms
 root_front [] h = refl
 root_front (m ∷ ms) h =
     let e = ends m ms in
     let p = parts_of e.front e.last (ap are_names (sym e.is) ∙ h) in
-    let at_end : path_at root_text (m ∷ ms) ≡ join_text (path_at root_text e.front) e.last = ap (path_at root_text) e.is ∙ path_at-more root_text e.front e.last in
+    let at_end : path_below root_text (m ∷ ms) ≡ join_text (path_below root_text e.front) e.last = ap (path_below root_text) e.is ∙ path_at-more root_text e.front e.last in
     ap (λ t. or_root (front_of t)) at_end
-    ∙ ap or_root (front-join (path_at root_text e.front) e.last p.1)
-    ∙ ap or_root (join-front (path_at root_text e.front) e.last) ∙ filled (front_of (path_at root_text e.front)) e.last ∙ sym (join-front (path_at root_text e.front) e.last)
+    ∙ ap or_root (front-join (path_below root_text e.front) e.last p.1)
+    ∙ ap or_root (join-front (path_below root_text e.front) e.last) ∙ filled (front_of (path_below root_text e.front)) e.last ∙ sym (join-front (path_below root_text e.front) e.last)
     ∙ sym at_end
 
-pub parent_at : (ms : List Name) (n : Name) → are_names ms ≡ true → is_component n ≡ true → parent_text (join_text (path_at root_text ms) n) ≡ Some (path_at root_text ms)
+pub parent_at : (ms : List Name) (n : Name) → are_names ms ≡ true → is_component n ≡ true → parent_text (join_text (path_below root_text ms) n) ≡ Some (path_below root_text ms)
 unfolding parent_text
 parent_at ms n h k =
-    ap (λ b. if b then None else Some (or_root (before_last_slash (join_text (path_at root_text ms) n)))) (not_joined (path_at root_text ms) n k)
-    ∙ ap (λ t. Some (or_root t)) (ap before_last_slash (join-front (path_at root_text ms) n) ∙ before_last (front_of (path_at root_text ms)) n (component_slash n k))
+    ap (λ b. if b then None else Some (or_root (before_last_slash (join_text (path_below root_text ms) n)))) (not_joined (path_below root_text ms) n k)
+    ∙ ap (λ t. Some (or_root t)) (ap before_last_slash (join-front (path_below root_text ms) n) ∙ before_last (front_of (path_below root_text ms)) n (component_slash n k))
     ∙ ap Some (root_front ms h)
 
 pub parent_root : parent_text root_text ≡ None
@@ -84,11 +85,11 @@ longer_apart p q less = not_same p q (λ e. let l = ap length e in absurd (omega
 
 -- ---- the paths on a way to a path are paths
 
-pub front_is_path : (ms ns : List Name) → are_names ms ≡ true → are_names ns ≡ true → is_path (path_at root_text (ms ++ ns)) ≡ true → is_path (path_at root_text ms) ≡ true
+pub front_is_path : (ms ns : List Name) → are_names ms ≡ true → are_names ns ≡ true → is_path (path_below root_text (ms ++ ns)) ≡ true → is_path (path_below root_text ms) ≡ true
 unfolding is_path
 front_is_path [] ns h k one = refl
 front_is_path (m ∷ ms) ns h k one =
-    let n = names_of_path (path_at root_text ((m ∷ ms) ++ ns)) one in
+    let n = names_of_path (path_below root_text ((m ∷ ms) ++ ns)) one in
     let both = names-append (m ∷ ms) ns h k in
     let few : length ((m ∷ ms) ++ ns) ≤ 64 = subst (λ ws. length ws ≤ 64) (names-back ((m ∷ ms) ++ ns) both) n.few in
     let short = n.short in
@@ -132,5 +133,5 @@ module _ (text path rest name after : List ℕ) (r : IsRest text path rest) (cut
 pub root_rest : (text rest : List ℕ) → is_path text ≡ true → names_in text ≡ components rest → IsRest text root_text rest
 root_rest text rest one is = record { is = sym (names_of_path text one).path ∙ at_root }
   where
-    at_root : path_at root_text (names_in text) ≡ 47 ∷ rest
-    at_root = let s = split_some rest in ap (path_at root_text) (is ∙ s.is) ∙ path-joined root_text s.first s.rest (sym (ap are_names (is ∙ s.is)) ∙ (names_of_path text one).names) ∙ ap (λ ns. 47 ∷ joined ns) (sym s.is) ∙ ap (λ t. 47 ∷ t) (joined-split rest)
+    at_root : path_below root_text (names_in text) ≡ 47 ∷ rest
+    at_root = let s = split_some rest in ap (path_below root_text) (is ∙ s.is) ∙ path-joined root_text s.first s.rest (sym (ap are_names (is ∙ s.is)) ∙ (names_of_path text one).names) ∙ ap (λ ns. 47 ∷ joined ns) (sym s.is) ∙ ap (λ t. 47 ∷ t) (joined-split rest)

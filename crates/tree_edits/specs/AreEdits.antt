@@ -6,10 +6,10 @@ use Rattle.std.specs.Cmp.Lexicographic.{slice_cmp}
 use Rattle.dsv_base.specs.Paths.{is_path, root_text, parent_text}
 use Rattle.rev_nodes.specs.declared.cell.Cell.{Cell}
 use Rattle.rev_nodes.specs.Trees.{is_dir_kind}
-use Rattle.node_table.specs.Tables.{cell_at, IsSound}
+use Rattle.node_table.specs.Tables.{cell_at, IsSoundTable}
 use Rattle.tree_edits.specs.Edits.{Held, Touched, EditedTree, touched_at}
 
--- what stands at a touched path fits the table and the revision: it was changed last in that or before, it began no later than that, what stands in it by the table is of the table and no younger, and nothing stands in a file
+-- what stands at a touched path fits the table and the revision: it was changed last in that or before, it began no later than it was changed, what stands in it by the table is of the table and was changed no later, and nothing stands in a file
 pub record IsHeld (rev : ℕ) (cells : List Cell) (here : Held) : Type 0 where
   pub created : here.node.created ≤ rev
   pub since : here.line.since ≤ here.node.created
@@ -37,9 +37,9 @@ pub record AreTouched (rev : ℕ) (cells : List Cell) (touched : Touched) : Type
   pub placed : (path : List ℕ) (edit : Option Held) → touched_at touched path ≡ Some edit → IsPlaced touched path edit
   pub held : (path : List ℕ) (here : Held) → touched_at touched path ≡ Some (Some here) → IsHeld rev cells here
 
--- edits of a revision over a root of a sound table
+-- edits of a revision over a root of a sound table, whose node was changed last in that revision or before
 pub record AreEdits (rev : ℕ) (cells : List Cell) (edits : EditedTree) : Type 0 where
-  pub sound : IsSound cells
+  pub sound : IsSoundTable cells
   pub within : edits.root < length cells
   pub young : (cell_at cells edits.root).node.created ≤ rev
   pub touched : AreTouched rev cells edits.touched

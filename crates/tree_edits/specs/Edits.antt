@@ -11,7 +11,8 @@ use Rattle.rev_nodes.specs.Trees.{TreeNode, Tree, at}
 use Rattle.rev_nodes.specs.Formed.{IsFormed}
 use Rattle.rev_nodes.specs.declared.cell.Cell.{Cell}
 pub use Rattle.tree_edits.specs.declared.held.Held.{Held}
-use Rattle.node_table.specs.Ways.{Name, are_names, path_at}
+use Rattle.rev_nodes.specs.Subtrees.{path_below}
+use Rattle.node_table.specs.Ways.{Name, are_names}
 use Rattle.node_table.specs.Tables.{cell_at, child_in, below_line}
 
 -- the touched paths in byte order, each once, with what stands there now, or that nothing does
@@ -55,14 +56,14 @@ abbrev pub held : List Cell → EditedTree → List Name → Option Held
 held cells edits ns = held_from cells edits.touched root_text (held_root cells edits) ns
 
 -- the node of a tree that a place shows
-abbrev pub shown_node : Held → TreeNode
-shown_node here = record { node = here.node; line = here.line }
+abbrev pub held_node : Held → TreeNode
+held_node here = record { node = here.node; line = here.line }
 
 -- what is shown where names lead from the root
 abbrev pub shown : List Cell → EditedTree → List Name → Option TreeNode
-shown cells edits ns = option_map shown_node (held cells edits ns)
+shown cells edits ns = option_map held_node (held cells edits ns)
 
--- the flat tree has at each path what the edits show there
+-- the flat tree is formed, and has at each path what the edits show there
 pub record AreShown (cells : List Cell) (edits : EditedTree) (tree : Tree) : Type 0 where
-  pub shows : (ns : List Name) → are_names ns ≡ true → at (path_at root_text ns) tree ≡ shown cells edits ns
+  pub shows : (ns : List Name) → are_names ns ≡ true → at (path_below root_text ns) tree ≡ shown cells edits ns
   pub formed : IsFormed tree

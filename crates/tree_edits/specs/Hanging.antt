@@ -21,13 +21,13 @@ use Rattle.tree_edits.specs.Edits.{Held, Touched, EditedTree, touched_at, child_
 abbrev pub marked_held : ℕ → Held → Held
 marked_held r here = record here { node = record here.node { created = r } }
 
--- the same with another text
-abbrev pub with_text : ℕ → List ℕ → Held → Held
-with_text r text here = record here { node = record here.node { text = text; created = r } }
+-- the same with another text, changed last in this revision
+abbrev pub held_with_text : ℕ → List ℕ → Held → Held
+held_with_text r text here = record here { node = record here.node { text = text; created = r } }
 
--- the same with other properties
-abbrev pub with_props : ℕ → List Prop → Held → Held
-with_props r props here = record here { node = record here.node { props = props; created = r } }
+-- the same with other properties, changed last in this revision
+abbrev pub held_with_props : ℕ → List Prop → Held → Held
+held_with_props r props here = record here { node = record here.node { props = props; created = r } }
 
 -- what a copy of a node of the table puts at a path: it begins there, from its source, over what stands in it by the table
 abbrev pub copied_held : ℕ → List ℕ → ℕ → ℕ → Node → Held
@@ -73,7 +73,7 @@ abbrev pub Hangs : {X : Type 0} → Option Touched → Touched → Touched → R
 Hangs expected old new (Ok x) = expected ≡ Some new
 Hangs expected old new (Err why) = (new ≡ old) × MatchBool (is_want why) (Unit {0}) ((why ≡ NoParent) × (expected ≡ None))
 
--- what is left at the end of a way below a place that is marked already
+-- the touched paths with what is left at the end of a way of one name or more below a place that is marked already, and the directories between marked; nothing where one of them is none
 abbrev pub hung_below : ℕ → List Cell → Option Held → Touched → List ℕ → Held → List Name → Option Touched
 hung_below r cells leaf touched path above [] = None
 hung_below r cells leaf touched path above (n ∷ ns) = hung_in r cells leaf touched (join_text path n) (child_held cells touched path n above) ns

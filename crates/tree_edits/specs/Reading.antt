@@ -5,7 +5,7 @@ use Rattle.dsv_base.specs.Paths.{is_component, components, join_text}
 use Rattle.rev_nodes.specs.declared.cell.Cell.{Cell}
 use Rattle.rev_nodes.specs.declared.line.Line.{Line}
 use Rattle.node_table.specs.Ways.{Name}
-use Rattle.node_table.specs.Tables.{cell_at, child_in, below_line, IsSound}
+use Rattle.node_table.specs.Tables.{cell_at, child_in, below_line, IsSoundTable}
 use Rattle.tree_edits.specs.Edits.{Held, Touched, EditedTree, touched_at, held_in}
 use Rattle.tree_edits.specs.Rests.{IsRest}
 
@@ -24,7 +24,7 @@ HasUnder cells (Some here) = IsUnder cells here.under
 
 -- so are those of the touched paths, and the table is sound
 pub record CanRead (cells : List Cell) (touched : Touched) : Type 0 where
-  pub sound : IsSound cells
+  pub sound : IsSoundTable cells
   pub within : (path : List ℕ) (here : Held) → touched_at touched path ≡ Some (Some here) → IsUnder cells here.under
 
 -- the root is one of the table too
@@ -33,12 +33,12 @@ pub record CanReadEdits (cells : List Cell) (edits : EditedTree) : Type 0 where
   pub touched : CanRead cells edits.touched
 
 -- the rest of a path is its last name
-pub record IsLast (text path rest : List ℕ) : Type 0 where
+pub record IsLastName (text path rest : List ℕ) : Type 0 where
   pub cut : components rest ≡ rest ∷ []
   pub is : text ≡ join_text path rest
 
--- the rest of a path is a name, to which this path leads, and more
-pub record IsNext (text path rest name next after : List ℕ) : Type 0 where
+-- the rest of a path is a name, to which this path leads, and behind it more, which is shorter
+pub record IsNextName (text path rest name next after : List ℕ) : Type 0 where
   pub cut : components rest ≡ name ∷ components after
   pub is : next ≡ join_text path name
   pub more : is_component name ≡ true → IsRest text next after

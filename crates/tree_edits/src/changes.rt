@@ -1,34 +1,27 @@
 ghost use Rattle.std.specs.Prelude.{◌≡◌, ℕ, Option, None, []};
 ghost use Rattle.rev_nodes.specs.declared.change.Change.TheVariants as told;
+ghost use Rattle.rev_nodes.specs.Trees.{new_line};
 ghost use Rattle.tree_edits.specs.AreEdits.{AreEdits};
 ghost use Rattle.tree_edits.specs.Applied.{Does};
 
 use crate::edits::Edits;
 use crate::held::Held;
 use crate::props::{with_prop, without_prop};
-use dsv_base::{Bytes, List, Path, Rev};
-use rev_nodes::{Cell, Kind, Line, Node, Unfit};
+use dsv_base::{Bytes, Path, Rev};
+use rev_nodes::{Cell, Kind, Line, Node, Text, Unfit};
 use std::alloc::Global;
 
 /// What begins at a place in this revision, by no copy, without properties and with nothing in it.
-fn new_held(alloc: Global, kind: Kind, text: Bytes, rev: Rev) -> Held
+fn new_held(kind: Kind, text: Text, rev: Rev) -> Held
     ensures { result ≡ record {
       node = record { kind = kind; props = []; text = text; created = rev };
-      line = record { since = rev; source = None };
+      line = new_line rev;
       under = None;
     } }
 {
     Held {
-        node: Node {
-            kind,
-            props: List::of(Vec::new(alloc)),
-            text,
-            created: rev,
-        },
-        line: Line {
-            since: rev,
-            source: None,
-        },
+        node: Node::new(kind, text, rev),
+        line: Line::new(rev),
         under: None,
     }
 }
@@ -40,7 +33,7 @@ impl Edits {
         alloc: Global,
         cells: &[Cell],
         path: &Path,
-        text: &Bytes,
+        text: &Text,
         rev: Rev,
     ) -> Result<(), Unfit>
         requires { AreEdits rev cells.now self.old }
@@ -48,13 +41,13 @@ impl Edits {
     {
         match self.look(cells, path)? {
             None => {
-                let held = new_held(alloc, Kind::File, text.copy()?, rev);
+                let held = new_held(Kind::File, text.share()?, rev);
                 self.hang(alloc, cells, path, Some(held), rev)
             }
             Some(place) => match place.node().kind {
                 Kind::Dir => Err(Unfit::Exists),
                 Kind::File => {
-                    let held = place.into_held_with_text(alloc, text, rev)?;
+                    let held = place.into_held_with_text(text, rev)?;
                     self.hang(alloc, cells, path, Some(held), rev)
                 }
             },
@@ -120,7 +113,7 @@ impl Edits {
         match self.look(cells, path)? {
             Some(_place) => Err(Unfit::Exists),
             None => {
-                let held = new_held(alloc, Kind::Dir, Bytes::from_vec(Vec::new(alloc)), rev);
+                let held = new_held(Kind::Dir, Text::empty(), rev);
                 self.hang(alloc, cells, path, Some(held), rev)
             }
         }

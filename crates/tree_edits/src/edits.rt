@@ -10,7 +10,6 @@ ghost use Rattle.tree_edits.specs.Rests.{IsRest};
 ghost use Rattle.tree_edits.specs.Reading.{CanRead, CanReadEdits, IsUnder};
 ghost use Rattle.tree_edits.specs.Hanging.{Hangs, hung_in, hung_at, cleared};
 
-use crate::copies::copy_line;
 use crate::held::Held;
 use crate::place::Place;
 use crate::store::Store;
@@ -43,7 +42,7 @@ fn root_place(cells: &[Cell], root: NodeId) -> Result<Place<'_>, NoMemory>
     ensures { IfOk result (λ place. place ≡ held_in cells.now (cell_at cells.now root).line root) }
 {
     let cell = cell_of(cells, root);
-    let line = copy_line(&cell.line)?;
+    let line = cell.line.copy()?;
     Ok(Place::of(&cell.node, line, Some(root)))
 }
 
@@ -61,7 +60,7 @@ fn root_held<'a>(
         None => Ok(Some(root_place(cells, root)?)),
         Some(None) => Ok(None),
         Some(Some(held)) => {
-            let line = copy_line(&held.line)?;
+            let line = held.line.copy()?;
             Ok(Some(Place::of(&held.node, line, held.under)))
         }
     }

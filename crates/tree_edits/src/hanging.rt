@@ -88,7 +88,7 @@ impl Store {
         match place.node().kind {
             Kind::File => Err(Unfit::NoParent),
             Kind::Dir => {
-                let held = place.into_held(alloc, rev)?;
+                let held = place.into_held(rev)?;
                 self.add(alloc, path, Some(held))?;
                 Ok(None)
             }

@@ -3,8 +3,7 @@
 
 mod applying;
 mod changes;
-mod copies;
-mod copying;
+mod copy;
 mod edits;
 mod hanging;
 mod held;
@@ -15,7 +14,6 @@ mod props;
 mod store;
 mod touch;
 
-pub use copies::{copy_line, copy_node};
 pub use edits::Edits;
 pub use held::Held;
 pub use place::Place;

@@ -1,13 +1,12 @@
 ghost use Rattle.std.specs.Prelude.{◌≡◌, ◌<◌, ℕ, true, Some, IfOk, length};
 ghost use Rattle.dsv_base.specs.Paths.{components};
 ghost use Rattle.node_table.specs.Ways.{are_names};
-ghost use Rattle.node_table.specs.Tables.{IsSound};
+ghost use Rattle.node_table.specs.Tables.{IsSoundTable};
 ghost use Rattle.tree_edits.specs.Edits.{touched_at, or_touched, held_from};
 ghost use Rattle.tree_edits.specs.Rests.{IsRest};
 ghost use Rattle.tree_edits.specs.Reading.{table_child, IsUnder, HasUnder, CanRead};
 ghost use Rattle.tree_edits.specs.Hanging.{child_held};
 
-use crate::copies::copy_line;
 use crate::names::next_name;
 use crate::place::{Place, below_line};
 use crate::store::Store;
@@ -22,7 +21,7 @@ pub fn table_child<'a>(
     under: Option<NodeId>,
     name: &[u8],
 ) -> Result<Option<Place<'a>>, NoMemory>
-    requires sound { IsSound cells.now }
+    requires sound { IsSoundTable cells.now }
     requires under { IsUnder cells.now under }
     ensures place { IfOk result (λ place. place ≡ table_child cells.now line.now under name.now) }
     ensures under { IfOk result (λ place. HasUnder cells.now place) }
@@ -59,7 +58,7 @@ impl Store {
             None => table_child(cells, above.line(), above.under(), name),
             Some(None) => Ok(None),
             Some(Some(held)) => {
-                let line = copy_line(&held.line)?;
+                let line = held.line.copy()?;
                 Ok(Some(Place::of(&held.node, line, held.under)))
             }
         }

@@ -1,6 +1,6 @@
 ghost use Rattle.std.specs.Prelude.{◌≡◌, MatchOption};
 ghost use Rattle.tree_edits.specs.Rests.{IsRest};
-ghost use Rattle.tree_edits.specs.Reading.{IsLast, IsNext};
+ghost use Rattle.tree_edits.specs.Reading.{IsLastName, IsNextName};
 
 use node_table::first_name;
 
@@ -12,8 +12,8 @@ pub fn next_name<'a>(
     rest: &'a [u8],
 ) -> Option<(&'a [u8], &'a [u8], &'a [u8])>
     requires { IsRest text.now path.now rest.now }
-    ensures { MatchOption result (IsLast text.now path.now rest.now)
-        (λ x. IsNext text.now path.now rest.now x.0.now x.1.now x.2.now) }
+    ensures { MatchOption result (IsLastName text.now path.now rest.now)
+        (λ x. IsNextName text.now path.now rest.now x.0.now x.1.now x.2.now) }
 {
     match first_name(rest) {
         None => None,

@@ -1,12 +1,10 @@
 ghost use Rattle.std.specs.Prelude.{◌≡◌, ℕ, Some, IfOk};
 ghost use Rattle.node_table.specs.Tables.{below_line};
-ghost use Rattle.tree_edits.specs.Hanging.{marked_held, with_text, with_props};
+ghost use Rattle.tree_edits.specs.Hanging.{marked_held, held_with_text, held_with_props};
 
-use crate::copies::{copy_line, copy_node, copy_props};
 use crate::held::Held;
-use dsv_base::{Bytes, List, NoMemory, Prop, Rev};
-use rev_nodes::{Line, Node, NodeId};
-use std::alloc::Global;
+use dsv_base::{NoMemory, Prop, Rev};
+use rev_nodes::{Line, Node, NodeId, Shared, Text};
 use std::marker::Model;
 
 /// What stands at a place, read without a copy of its node. Contracts see it as what is held there.
@@ -55,10 +53,10 @@ impl<'a> Place<'a> {
     }
 
     /// What is held there after a change of this revision at or below it.
-    pub(crate) fn into_held(self, alloc: Global, rev: Rev) -> Result<Held, NoMemory>
+    pub(crate) fn into_held(self, rev: Rev) -> Result<Held, NoMemory>
         ensures { IfOk result (λ held. held ≡ marked_held rev self.entry) }
     {
-        let node = copy_node(alloc, self.node, rev)?;
+        let node = self.node.marked(rev)?;
         Ok(Held {
             node,
             line: self.line,
@@ -67,18 +65,13 @@ impl<'a> Place<'a> {
     }
 
     /// The same with another text.
-    pub(crate) fn into_held_with_text(
-        self,
-        alloc: Global,
-        text: &Bytes,
-        rev: Rev,
-    ) -> Result<Held, NoMemory>
-        ensures { IfOk result (λ held. held ≡ with_text rev text.now self.entry) }
+    pub(crate) fn into_held_with_text(self, text: &Text, rev: Rev) -> Result<Held, NoMemory>
+        ensures { IfOk result (λ held. held ≡ held_with_text rev text.now self.entry) }
     {
         let node = Node {
             kind: self.node.kind,
-            props: copy_props(alloc, self.node.props.get())?,
-            text: text.copy()?,
+            props: self.node.props.share()?,
+            text: text.share()?,
             created: rev,
         };
         Ok(Held {
@@ -89,13 +82,13 @@ impl<'a> Place<'a> {
     }
 
     /// The same with other properties.
-    pub(crate) fn into_held_with_props(self, props: List<Prop>, rev: Rev) -> Result<Held, NoMemory>
-        ensures { IfOk result (λ held. held ≡ with_props rev props self.entry) }
+    pub(crate) fn into_held_with_props(self, props: Shared<Prop>, rev: Rev) -> Result<Held, NoMemory>
+        ensures { IfOk result (λ held. held ≡ held_with_props rev props self.entry) }
     {
         let node = Node {
             kind: self.node.kind,
             props,
-            text: self.node.text.copy()?,
+            text: self.node.text.share()?,
             created: rev,
         };
         Ok(Held {
@@ -113,7 +106,7 @@ pub(crate) fn below_line(above: &Line, name: &[u8], own: &Line) -> Result<Line, 
     ensures { IfOk result (λ line. line ≡ below_line above.now name.now own.now) }
 {
     if above.since.get() <= own.since.get() {
-        return copy_line(own);
+        return own.copy();
     }
     let source = match &above.source {
         None => None,

@@ -1,10 +1,18 @@
 ghost use Rattle.std.specs.Prelude.{◌≡◌, ◌∷◌, ◌++◌, IfOk};
 ghost use Rattle.rev_nodes.specs.Changes.{with_prop, without_prop};
 
-use crate::copies::copy_prop;
-use dsv_base::{Bytes, List, NoMemory, Prop};
+use dsv_base::{Bytes, NoMemory, Prop};
+use rev_nodes::Shared;
 use std::alloc::Global;
 use std::cmp::Ordering;
+
+fn copy_prop(prop: &Prop) -> Result<Prop, NoMemory>
+    ensures { IfOk result (λ copy. copy ≡ prop.now) }
+{
+    let name = prop.name.copy()?;
+    let value = prop.value.copy()?;
+    Ok(Prop { name, value })
+}
 
 /// The properties with this one, in byte order of the name.
 pub fn with_prop(
@@ -12,7 +20,7 @@ pub fn with_prop(
     props: &[Prop],
     name: &Bytes,
     value: &Bytes,
-) -> Result<List<Prop>, NoMemory>
+) -> Result<Shared<Prop>, NoMemory>
     ensures { IfOk result (λ new. new ≡ with_prop (record { name = name.now; value = value.now }) props.now) }
 {
     let mut new = Vec::with_capacity(alloc, props.len())?;
@@ -36,7 +44,7 @@ fn closed(
     name: &Bytes,
     value: &Bytes,
     rest: &[Prop],
-) -> Result<List<Prop>, NoMemory>
+) -> Result<Shared<Prop>, NoMemory>
     ensures { IfOk result (λ new. new ≡ before.items ++ record { name = name.now; value = value.now } ∷ rest.now) }
 {
     let mut new = before;
@@ -47,11 +55,11 @@ fn closed(
     'rest: for prop in rest {
         new.push(copy_prop(prop)?)?;
     }
-    Ok(List::of(new))
+    Shared::of(new)
 }
 
 /// The properties without this one.
-pub fn without_prop(alloc: Global, props: &[Prop], name: &Bytes) -> Result<List<Prop>, NoMemory>
+pub fn without_prop(alloc: Global, props: &[Prop], name: &Bytes) -> Result<Shared<Prop>, NoMemory>
     ensures { IfOk result (λ new. new ≡ without_prop name.now props.now) }
 {
     let mut new = Vec::with_capacity(alloc, props.len())?;
@@ -60,5 +68,5 @@ pub fn without_prop(alloc: Global, props: &[Prop], name: &Bytes) -> Result<List<
             new.push(copy_prop(prop)?)?;
         }
     }
-    Ok(List::of(new))
+    Shared::of(new)
 }

@@ -10,11 +10,11 @@ use Rattle.rev_nodes.specs.declared.cell.Cell.{Cell}
 use Rattle.rev_nodes.specs.declared.line.Line.{Line}
 use Rattle.rev_nodes.proofs.Below.{differ, same_from}
 use Rattle.node_table.specs.Ways.{Name, are_names}
-use Rattle.node_table.specs.Tables.{cell_at, child_in, spot_in, below_line, node_at, seen, IsSound}
+use Rattle.node_table.specs.Tables.{cell_at, child_in, spot_in, below_line, spot_node, seen, IsSoundTable}
 use Rattle.node_table.proofs.Growing.{cell_at-kept, seen-kept, walk_none}
 use Rattle.node_table.proofs.Ways.{not_root, some_text, join-front}
 use Rattle.tree_edits.specs.declared.held.Held.{Held}
-use Rattle.tree_edits.specs.Edits.{Touched, touched_at, held_in, child_of, or_touched, held_from, shown_node}
+use Rattle.tree_edits.specs.Edits.{Touched, touched_at, held_in, child_of, or_touched, held_from, held_node}
 use Rattle.tree_edits.specs.AreEdits.{AreTouched}
 use Rattle.tree_settling.specs.Settled.{IsMadeAt, Agrees}
 
@@ -53,9 +53,9 @@ held_none cells touched path [] = refl
 held_none cells touched path (n ∷ ns) = refl
 
 pub seen_none : (cells : List Cell) (ns : List Name) → seen cells None ns ≡ None
-seen_none cells ns = ap (option_map (node_at cells)) (walk_none cells ns)
+seen_none cells ns = ap (option_map (spot_node cells)) (walk_none cells ns)
 
-module _ (rev : ℕ) (cells : List Cell) (touched : Touched) (sound : IsSound cells) (are : AreTouched rev cells touched) where
+module _ (rev : ℕ) (cells : List Cell) (touched : Touched) (sound : IsSoundTable cells) (are : AreTouched rev cells touched) where
   -- nothing is touched right below what isn't
   pub none_below : (p : List ℕ) (n : Name) → IsSome p → is_component n ≡ true → touched_at touched p ≡ None → touched_at touched (join_text p n) ≡ None
   none_below p n some named none = by (touched_at touched (join_text p n)) refl
@@ -65,20 +65,20 @@ module _ (rev : ℕ) (cells : List Cell) (touched : Touched) (sound : IsSound ce
       by (Some edit) e = let above = ((are.placed (join_text p n) edit e).parents p (parent_of_join p n some named)).there in absurd (let f : None ≡ Some _ = sym none ∙ above in cc f)
 
   -- where nothing is touched the table is shown
-  pub untouched : (ns : List Name) → are_names ns ≡ true → (p : List ℕ) → IsSome p → touched_at touched p ≡ None → (line : Line) (id : ℕ) → option_map shown_node (held_from cells touched p (Some (held_in cells line id)) ns) ≡ seen cells (Some (record { id = id; line = line })) ns
+  pub untouched : (ns : List Name) → are_names ns ≡ true → (p : List ℕ) → IsSome p → touched_at touched p ≡ None → (line : Line) (id : ℕ) → option_map held_node (held_from cells touched p (Some (held_in cells line id)) ns) ≡ seen cells (Some (record { id = id; line = line })) ns
   untouched [] names p some none line id = refl
   untouched (n ∷ ns) names p some none line id =
       let named = (and_parts (is_component n) (are_names ns) names).0 in
-      ap (λ o. option_map shown_node (held_from cells touched (join_text p n) (or_touched o (child_of cells n (held_in cells line id))) ns)) (none_below p n some named none)
+      ap (λ o. option_map held_node (held_from cells touched (join_text p n) (or_touched o (child_of cells n (held_in cells line id))) ns)) (none_below p n some named none)
       ∙ by (child_in cells n id) (λ l i. untouched ns (and_parts (is_component n) (are_names ns) names).1 (join_text p n) (join-some p n) (none_below p n some named none) l i)
     where
-      by : (o : Option ℕ) → ((l : Line) (i : ℕ) → option_map shown_node (held_from cells touched (join_text p n) (Some (held_in cells l i)) ns) ≡ seen cells (Some (record { id = i; line = l })) ns)
-          → option_map shown_node (held_from cells touched (join_text p n) (option_map (λ i. held_in cells (below_line line n (cell_at cells i).line) i) o) ns) ≡ seen cells (option_map (spot_in cells line n) o) ns
-      by None go = ap (option_map shown_node) (held_none cells touched (join_text p n) ns) ∙ sym (seen_none cells ns)
+      by : (o : Option ℕ) → ((l : Line) (i : ℕ) → option_map held_node (held_from cells touched (join_text p n) (Some (held_in cells l i)) ns) ≡ seen cells (Some (record { id = i; line = l })) ns)
+          → option_map held_node (held_from cells touched (join_text p n) (option_map (λ i. held_in cells (below_line line n (cell_at cells i).line) i) o) ns) ≡ seen cells (option_map (spot_in cells line n) o) ns
+      by None go = ap (option_map held_node) (held_none cells touched (join_text p n) ns) ∙ sym (seen_none cells ns)
       by (Some i) go = go (below_line line n (cell_at cells i).line) i
 
 -- what was made of a path stays that as more cells come
-module _ (cells : List Cell) (touched : Touched) (all : List Cell) (sound : IsSound all) (more : List Cell) where
+module _ (cells : List Cell) (touched : Touched) (all : List Cell) (sound : IsSoundTable all) (more : List Cell) where
   made-kept : (path : List ℕ) (here : Held) (id : ℕ) → IsMadeAt cells touched all path here id → IsMadeAt cells touched (all ++ more) path here id
   made-kept path here id made = record {
     within = let w = made.within in omega (arith, w, length-append all more);

@@ -10,11 +10,11 @@ use Rattle.rev_nodes.specs.declared.line.Line.{Line}
 use Rattle.rev_nodes.specs.declared.node.Node.{Node}
 use Rattle.rev_nodes.specs.Trees.{TreeNode, is_dir_kind}
 use Rattle.node_table.specs.Ways.{Name, are_names}
-use Rattle.node_table.specs.Tables.{pair, are_in_order, height_over, carried_line, cell_at, child, child_in, Spot, spot_in, below_line, seen, IsChild, IsSound}
+use Rattle.node_table.specs.Tables.{pair, entries_rise, height_over, carried_line, cell_at, child, child_in, Spot, spot_in, below_line, seen, IsChild, IsSoundTable}
 use Rattle.node_table.proofs.EntriesFound.{own_entry}
 use Rattle.node_table.proofs.Growing.{height_over-kept, cell_at-kept, cell_at-next, seen-kept, spot_in-kept, sound-more}
 use Rattle.tree_edits.specs.declared.held.Held.{Held}
-use Rattle.tree_edits.specs.Edits.{Touched, touched_at, held_in, child_of, or_touched, held_from, shown_node}
+use Rattle.tree_edits.specs.Edits.{Touched, touched_at, held_in, child_of, or_touched, held_from, held_node}
 use Rattle.tree_edits.specs.AreEdits.{AreTouched, IsHeld}
 use Rattle.tree_settling.specs.Merged.{AllMade, made_at, or_made}
 use Rattle.tree_settling.specs.Settled.{entries_under, IsCellOf, IsMadeAt, Agrees}
@@ -33,7 +33,7 @@ under_child cells n (Some id) = refl
 own_line : (above : Line) (n : Name) (own : Line) → above.since ≤ own.since → below_line above n own ≡ own
 own_line above n own older = ap (λ b. if b then own else carried_line above n) (le-leb above.since own.since older)
 
-module _ (rev : ℕ) (cells : List Cell) (touched : Touched) (sound : IsSound cells) (are : AreTouched rev cells touched) (more : List Cell) (all_sound : IsSound (cells ++ more)) (back : Touched) (made : AllMade) (agree : (p : List ℕ) → Agrees cells touched (cells ++ more) p (touched_at back p) (made_at made p))
+module _ (rev : ℕ) (cells : List Cell) (touched : Touched) (sound : IsSoundTable cells) (are : AreTouched rev cells touched) (more : List Cell) (all_sound : IsSoundTable (cells ++ more)) (back : Touched) (made : AllMade) (agree : (p : List ℕ) → Agrees cells touched (cells ++ more) p (touched_at back p) (made_at made p))
     (path : List ℕ) (some : IsSome path) (here : Held) (there : touched_at touched path ≡ Some (Some here)) (behind : (n : Name) → is_component n ≡ true → touched_at back (join_text path n) ≡ touched_at touched (join_text path n))
     (cell : Cell) (cell_is : IsCellOf cells more made path here cell) where
   abbrev all : List Cell
@@ -140,9 +140,9 @@ module _ (rev : ℕ) (cells : List Cell) (touched : Touched) (sound : IsSound ce
           let d = made_touched n o named (sym (cell_is.listed.finds n named) ∙ e) in
           absurd (let f : true ≡ false = sym d ∙ file in cc f)
 
-  pub final_sound : IsSound final
+  pub final_sound : IsSoundTable final
   final_sound = sound-more all cell all_sound (record {
-    sorted = subst (λ (x : Cell). IsTrue (are_in_order x.entries)) (sym here_is) cell_is.merged.sorted;
+    sorted = subst (λ (x : Cell). IsTrue (entries_rise x.entries)) (sym here_is) cell_is.merged.sorted;
     children = λ n j e. child_is n j (sym (ap (λ (x : Cell). child n x.entries) here_is) ∙ e);
     file = subst (λ (x : Cell). is_dir_kind x.node.kind ≡ false → x.entries ≡ []) (sym here_is) (λ file. no_file (sym (ap (λ (x : Node). is_dir_kind x.kind) cell_is.node) ∙ file));
     height = subst (λ (x : Cell). x.height ≡ height_over final x.entries) (sym here_is) (cell_is.height ∙ sym (height_over-kept all (cell ∷ []) cell.entries (λ k d less. (child_is _ _ (own_entry cell.entries cell_is.merged.sorted k d less)).lower)));
@@ -163,8 +163,8 @@ module _ (rev : ℕ) (cells : List Cell) (touched : Touched) (sound : IsSound ce
 
   -- what stands there by the table alone
   by_table : (n : Name) (ns : List Name) → are_names ns ≡ true → touched_at touched (join_text path n) ≡ None → (o : Option ℕ) → ((j : ℕ) → o ≡ Some j → j < length cells)
-      → seen final (option_map (spot_in final here.line n) o) ns ≡ option_map shown_node (held_from cells touched (join_text path n) (option_map (λ i. held_in cells (below_line here.line n (cell_at cells i).line) i) o) ns)
-  by_table n ns names none None bound = seen_none final ns ∙ sym (ap (option_map shown_node) (held_none cells touched (join_text path n) ns))
+      → seen final (option_map (spot_in final here.line n) o) ns ≡ option_map held_node (held_from cells touched (join_text path n) (option_map (λ i. held_in cells (below_line here.line n (cell_at cells i).line) i) o) ns)
+  by_table n ns names none None bound = seen_none final ns ∙ sym (ap (option_map held_node) (held_none cells touched (join_text path n) ns))
   by_table n ns names none (Some j) bound =
       let low = bound j refl in
       ap (λ xs. seen xs (Some (spot_in xs here.line n j)) ns) whole
@@ -173,7 +173,7 @@ module _ (rev : ℕ) (cells : List Cell) (touched : Touched) (sound : IsSound ce
       ∙ sym (untouched rev cells touched sound are ns names (join_text path n) (join-some path n) none (below_line here.line n (cell_at cells j).line) j)
 
   by_made : (n : Name) (ns : List Name) → is_component n ≡ true → are_names ns ≡ true → (h : Held) (j : ℕ) → touched_at touched (join_text path n) ≡ Some (Some h) → IsMadeAt cells touched all (join_text path n) h j
-      → seen final (Some (spot_in final here.line n j)) ns ≡ option_map shown_node (held_from cells touched (join_text path n) (Some h) ns)
+      → seen final (Some (spot_in final here.line n j)) ns ≡ option_map held_node (held_from cells touched (join_text path n) (Some h) ns)
   by_made n ns named names h j e m =
       let i = in_here n named (Some h) e in
       ap (λ (l : Line). seen final (Some (record { id = j; line = below_line here.line n l })) ns) (ap (λ (x : Cell). x.line) (cell_at-kept all (cell ∷ []) j m.within) ∙ m.line)
@@ -182,24 +182,24 @@ module _ (rev : ℕ) (cells : List Cell) (touched : Touched) (sound : IsSound ce
       ∙ m.shows ns names
 
   shows_below : (n : Name) (ns : List Name) → is_component n ≡ true → are_names ns ≡ true → seen final (option_map (spot_in final here.line n) (or_made (made_at made (join_text path n)) (option_and_then (child_in cells n) here.under))) ns
-      ≡ option_map shown_node (held_from cells touched (join_text path n) (or_touched (touched_at touched (join_text path n)) (child_of cells n here)) ns)
+      ≡ option_map held_node (held_from cells touched (join_text path n) (or_touched (touched_at touched (join_text path n)) (child_of cells n here)) ns)
   shows_below n ns named names =
       by (touched_at back (join_text path n)) refl (made_at made (join_text path n)) refl (agree (join_text path n))
-      ∙ ap (λ t. option_map shown_node (held_from cells touched (join_text path n) (or_touched t (child_of cells n here)) ns)) (behind n named)
+      ∙ ap (λ t. option_map held_node (held_from cells touched (join_text path n) (or_touched t (child_of cells n here)) ns)) (behind n named)
     where
       by : (t : Option (Option Held)) → touched_at back (join_text path n) ≡ t → (m : Option (Option ℕ)) → made_at made (join_text path n) ≡ m → Agrees cells touched all (join_text path n) t m
-          → seen final (option_map (spot_in final here.line n) (or_made m (option_and_then (child_in cells n) here.under))) ns ≡ option_map shown_node (held_from cells touched (join_text path n) (or_touched t (child_of cells n here)) ns)
+          → seen final (option_map (spot_in final here.line n) (or_made m (option_and_then (child_in cells n) here.under))) ns ≡ option_map held_node (held_from cells touched (join_text path n) (or_touched t (child_of cells n here)) ns)
       by None e None f a = by_table n ns names (sym (behind n named) ∙ e) (option_and_then (child_in cells n) here.under) (λ j g. (under_is n j here.under refl g).lower)
       by None e (Some None) f a = absurd a
       by None e (Some (Some m)) f a = absurd a
       by (Some None) e None f a = absurd a
-      by (Some None) e (Some None) f a = seen_none final ns ∙ sym (ap (option_map shown_node) (held_none cells touched (join_text path n) ns))
+      by (Some None) e (Some None) f a = seen_none final ns ∙ sym (ap (option_map held_node) (held_none cells touched (join_text path n) ns))
       by (Some None) e (Some (Some j)) f a = absurd a
       by (Some (Some h)) e None f a = absurd a
       by (Some (Some h)) e (Some None) f a = absurd a
       by (Some (Some h)) e (Some (Some j)) f a = by_made n ns named names h j (sym (behind n named) ∙ e) a
 
-  shows_all : (ns : List Name) → are_names ns ≡ true → seen final (Some (record { id = length all; line = here.line })) ns ≡ option_map shown_node (held_from cells touched path (Some here) ns)
+  shows_all : (ns : List Name) → are_names ns ≡ true → seen final (Some (record { id = length all; line = here.line })) ns ≡ option_map held_node (held_from cells touched path (Some here) ns)
   shows_all [] names = ap (λ (x : Node). let t : TreeNode = record { node = x; line = here.line } in Some t) (ap (λ (x : Cell). x.node) here_is ∙ cell_is.node)
   shows_all (n ∷ ns) names =
       let p = and_parts (is_component n) (are_names ns) names in

@@ -21,12 +21,12 @@ use Rattle.rev_nodes.specs.declared.node.Node.{Node}
 use Rattle.rev_nodes.proofs.Search.{first_true, second_true}
 use Rattle.rev_nodes.proofs.Below.{same_from, long, some_text}
 use Rattle.node_table.specs.Ways.{Name, are_names}
-use Rattle.node_table.specs.Tables.{cell_at, seen, IsSound}
+use Rattle.node_table.specs.Tables.{cell_at, seen, IsSoundTable}
 use Rattle.node_table.specs.Rebuilt.{root_spot}
 use Rattle.node_table.proofs.Growing.{cell_at-kept, seen-kept}
 use Rattle.node_table.proofs.Ways.{join-front}
 use Rattle.tree_edits.specs.declared.held.Held.{Held}
-use Rattle.tree_edits.specs.Edits.{Touched, EditedTree, touched_at, held_in, or_touched, held_from, shown_node, shown}
+use Rattle.tree_edits.specs.Edits.{Touched, EditedTree, touched_at, held_in, or_touched, held_from, held_node, shown}
 use Rattle.tree_edits.specs.AreEdits.{AreTouched, AreEdits}
 use Rattle.tree_settling.specs.Merged.{AllMade, made_at}
 use Rattle.tree_settling.specs.Listed.{AreBehind}
@@ -38,9 +38,9 @@ use Rattle.tree_settling.proofs.Places.{final_sound, final_made}
 
 -- ---- before the first turn
 
-pub none_settled : (cells : List Cell) (touched : Touched) → IsSound cells → (more : List Cell) → length more ≡ 0 → AreSettled cells touched more [] []
+pub none_settled : (cells : List Cell) (touched : Touched) → IsSoundTable cells → (more : List Cell) → length more ≡ 0 → AreSettled cells touched more [] []
 none_settled cells touched sound [] none = record {
-  sound = subst IsSound (sym (append-nil cells)) sound;
+  sound = subst IsSoundTable (sym (append-nil cells)) sound;
   keys = refl;
   agree = λ path. tt;
   count = refl;
@@ -78,7 +78,7 @@ texts_all (m ∷ ms) (t ∷ ts) h =
     let rest : map (λ (m : List ℕ × Option ℕ). m.0) ms ≡ map (λ (t : List ℕ × Option Held). t.0) ts = cc in
     ap (λ x. is_path x && list_all (λ m. is_path m.0) ms) here ∙ ap (λ b. is_path t.0 && b) (texts_all ms ts rest)
 
-module _ (rev : ℕ) (cells : List Cell) (touched : Touched) (sound : IsSound cells) (are : AreTouched rev cells touched) where
+module _ (rev : ℕ) (cells : List Cell) (touched : Touched) (sound : IsSoundTable cells) (are : AreTouched rev cells touched) where
   all_paths : (front back : Touched) → touched ≡ front ++ back → list_all (λ t. is_path t.0) back ≡ true
   all_paths front [] split = refl
   all_paths front (t ∷ back) split =
@@ -124,7 +124,7 @@ module _ (rev : ℕ) (cells : List Cell) (touched : Touched) (sound : IsSound ce
     some_turn : (here : Held) → touched ≡ front ++ (path, Some here) ∷ back → (more : List Cell) (made : AllMade) → AreSettled cells touched more back made → (cell : Cell) → IsCellOf cells more made path here cell
         → AreSettled cells touched (more ++ cell ∷ []) ((path, Some here) ∷ back) ((path, Some (length (cells ++ more))) ∷ made)
     some_turn here split more made so cell cell_is = record {
-      sound = subst IsSound whole final_sound_here;
+      sound = subst IsSoundTable whole final_sound_here;
       keys = ap (λ xs. path ∷ xs) so.keys;
       agree = λ p. subst (λ xs. Agrees cells touched xs p (touched_at ((path, Some here) ∷ back) p) (made_at ((path, Some (length (cells ++ more))) ∷ made) p)) whole (by p (slice_cmp nat_cmp p path) refl);
       count = let f = so.count in omega (arith, f, length-append more (cell ∷ []));
@@ -142,7 +142,7 @@ module _ (rev : ℕ) (cells : List Cell) (touched : Touched) (sound : IsSound ce
         behind : (n : Name) → is_component n ≡ true → touched_at back (join_text path n) ≡ touched_at touched (join_text path n)
         behind n named = sym (ap (λ t. touched_at t (join_text path n)) split ∙ find_behind front back path (join_text path n) (Some here) (rises (Some here) split) (join-behind path n named))
 
-        final_sound_here : IsSound ((cells ++ more) ++ cell ∷ [])
+        final_sound_here : IsSoundTable ((cells ++ more) ++ cell ∷ [])
         final_sound_here = final_sound rev cells touched sound are more so.sound back made so.agree path (path-some path one) here there behind cell cell_is
 
         final_made_here : IsMadeAt cells touched ((cells ++ more) ++ cell ∷ []) path here (length (cells ++ more))
@@ -172,7 +172,7 @@ pub record IsTurned (cells : List Cell) (touched : Touched) (more : List Cell) (
   pub split : touched ≡ rest ++ back
   pub so : AreSettled cells touched more back made
 
-pub turned_first : (cells : List Cell) (touched : Touched) → IsSound cells → (more : List Cell) → length more ≡ 0 → (made : AllMade) → made ≡ [] → (n : ℕ) → n ≡ length touched → IsTurned cells touched more (take n touched) made
+pub turned_first : (cells : List Cell) (touched : Touched) → IsSoundTable cells → (more : List Cell) → length more ≡ 0 → (made : AllMade) → made ≡ [] → (n : ℕ) → n ≡ length touched → IsTurned cells touched more (take n touched) made
 turned_first cells touched sound more none made made_is n n_is = record {
   back = [];
   split = sym (append-nil (take n touched) ∙ take_all n touched (omega (arith, n_is)));
@@ -186,13 +186,13 @@ module _ (cells : List Cell) (touched : Touched) (more : List Cell) (made : AllM
   cut : touched ≡ take (n - 1) touched ++ (last.0, last.1) ∷ t.back
   cut = t.split ∙ ap (λ xs. xs ++ t.back) (with_last touched n last some within is) ∙ append_assoc (take (n - 1) touched) (last ∷ []) t.back
 
-  pub next_within : (rev : ℕ) × AreTouched rev cells touched → IsSound cells → (here : Held) (id : ℕ) → last.1 ≡ Some here → here.under ≡ Some id → id < length cells
+  pub next_within : (rev : ℕ) × AreTouched rev cells touched → IsSoundTable cells → (here : Held) (id : ℕ) → last.1 ≡ Some here → here.under ≡ Some id → id < length cells
   next_within are sound = turn_within are.0 cells touched sound are.1 (take (n - 1) touched) t.back last.0 last.1 cut
 
-  pub next_behind : (rev : ℕ) × AreTouched rev cells touched → IsSound cells → AreBehind last.0 made
+  pub next_behind : (rev : ℕ) × AreTouched rev cells touched → IsSoundTable cells → AreBehind last.0 made
   next_behind are sound = turn_behind are.0 cells touched sound are.1 (take (n - 1) touched) t.back last.0 last.1 cut made t.so.keys
 
-  pub next_turned : (rev : ℕ) × AreTouched rev cells touched → IsSound cells → (new : List Cell) (one : List ℕ × Option ℕ) → IsMadeOf cells made last.0 last.1 more new one → (all : AllMade) → all ≡ one ∷ made → IsTurned cells touched new (take (n - 1) touched) all
+  pub next_turned : (rev : ℕ) × AreTouched rev cells touched → IsSoundTable cells → (new : List Cell) (one : List ℕ × Option ℕ) → IsMadeOf cells made last.0 last.1 more new one → (all : AllMade) → all ≡ one ∷ made → IsTurned cells touched new (take (n - 1) touched) all
   next_turned are sound new one m all all_is = record {
     back = last ∷ t.back;
     split = cut;
@@ -221,7 +221,7 @@ module _ (rev : ℕ) (cells : List Cell) (edits : EditedTree) (are : AreEdits re
             ap (λ (x : Cell). seen (cells ++ more) (Some (record { id = edits.root; line = x.line })) ns) kept
             ∙ seen-kept cells are.sound more ns (record { id = edits.root; line = (cell_at cells edits.root).line }) are.within
             ∙ sym (untouched rev cells edits.touched are.sound are.touched ns names root_text (record { byte = 47; rest = []; is = refl }) none (cell_at cells edits.root).line edits.root)
-            ∙ ap (λ o. option_map shown_node (held_from cells edits.touched root_text (or_touched o (Some (held_in cells (cell_at cells edits.root).line edits.root))) ns)) (sym none);
+            ∙ ap (λ o. option_map held_node (held_from cells edits.touched root_text (or_touched o (Some (held_in cells (cell_at cells edits.root).line edits.root))) ns)) (sym none);
       }
 
   new_root : (here : Held) (id : ℕ) → touched_at edits.touched root_text ≡ Some (Some here) → IsMadeAt cells edits.touched (cells ++ more) root_text here id → HasRoot rev cells edits more id
@@ -231,7 +231,7 @@ module _ (rev : ℕ) (cells : List Cell) (edits : EditedTree) (are : AreEdits re
     shows = λ ns names.
         ap (λ (l : Line). seen (cells ++ more) (Some (record { id = id; line = l })) ns) made.line
         ∙ made.shows ns names
-        ∙ ap (λ o. option_map shown_node (held_from cells edits.touched root_text (or_touched o (Some (held_in cells (cell_at cells edits.root).line edits.root))) ns)) (sym there);
+        ∙ ap (λ o. option_map held_node (held_from cells edits.touched root_text (or_touched o (Some (held_in cells (cell_at cells edits.root).line edits.root))) ns)) (sym there);
   }
 
   -- the first of the touched paths is `/`, or that isn't touched

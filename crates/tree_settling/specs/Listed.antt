@@ -10,7 +10,7 @@ use Rattle.rev_nodes.specs.Entries.{is_child}
 use Rattle.node_table.specs.Ways.{Name}
 use Rattle.tree_settling.specs.Merged.{AllMade, made_at}
 
--- paths in byte order, each behind this one
+-- this is a path, and so is each of what was made, which stands in byte order and behind it
 pub record AreBehind (path : List ℕ) (made : AllMade) : Type 0 where
   pub one : IsTrue (is_path path)
   pub paths : IsTrue (list_all (λ m. is_path m.0) made)

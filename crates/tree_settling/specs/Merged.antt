@@ -39,9 +39,9 @@ before_by Equal e rest = []
 before_by Greater e rest = e ∷ rest
 
 -- the entries before a name
-abbrev pub before : Name → List Entry → List Entry
-before name [] = []
-before name (e ∷ es) = before_by (slice_cmp nat_cmp name e.name) e (before name es)
+abbrev pub entries_before : Name → List Entry → List Entry
+entries_before name [] = []
+entries_before name (e ∷ es) = before_by (slice_cmp nat_cmp name e.name) e (entries_before name es)
 
 -- an entry with all behind it, all behind it, or what is left of these, as a name is before the entry's, that or behind it
 abbrev pub behind_by : Ordering → Entry → List Entry → List Entry → List Entry
@@ -50,6 +50,6 @@ behind_by Equal e es rest = es
 behind_by Greater e es rest = rest
 
 -- the entries behind a name
-abbrev pub behind : Name → List Entry → List Entry
-behind name [] = []
-behind name (e ∷ es) = behind_by (slice_cmp nat_cmp name e.name) e es (behind name es)
+abbrev pub entries_behind : Name → List Entry → List Entry
+entries_behind name [] = []
+entries_behind name (e ∷ es) = behind_by (slice_cmp nat_cmp name e.name) e es (entries_behind name es)

@@ -6,11 +6,11 @@ use Rattle.dsv_base.specs.Paths.{root_text}
 use Rattle.rev_nodes.specs.declared.cell.Cell.{Cell}
 use Rattle.rev_nodes.specs.declared.entry.Entry.{Entry}
 use Rattle.node_table.specs.Ways.{Name, are_names}
-use Rattle.node_table.specs.Tables.{height_over, cell_at, seen, IsSound}
+use Rattle.node_table.specs.Tables.{height_over, cell_at, seen, IsSoundTable}
 use Rattle.node_table.specs.Rebuilt.{root_spot}
 use Rattle.tree_edits.specs.declared.held.Held.{Held}
 use Rattle.tree_edits.specs.AreEdits.{AreTouched, AreEdits}
-use Rattle.tree_edits.specs.Edits.{Touched, EditedTree, touched_at, held_from, shown_node, shown}
+use Rattle.tree_edits.specs.Edits.{Touched, EditedTree, touched_at, held_from, held_node, shown}
 use Rattle.tree_settling.specs.Merged.{AllMade, made_at, AreMerged}
 use Rattle.tree_settling.specs.Listed.{AreListed}
 
@@ -19,9 +19,9 @@ abbrev pub standing : Touched → ℕ
 standing [] = 0
 standing (t ∷ ts) = if is_some t.1 then suc (standing ts) else standing ts
 
--- new cells behind those of a table, one for each touched path where something stands, with which it is sound, and a root that shows what the edits did
+-- new cells behind those of a table, one for each touched path where something stands, with which it is sound; and a root among them all, changed last in this revision or before, that shows what the edits do
 pub record IsSettled (rev : ℕ) (cells : List Cell) (edits : EditedTree) (more : List Cell) (root : ℕ) : Type 0 where
-  pub sound : IsSound (cells ++ more)
+  pub sound : IsSoundTable (cells ++ more)
   pub within : root < length (cells ++ more)
   pub created : (cell_at (cells ++ more) root).node.created ≤ rev
   pub shows : (ns : List Name) → are_names ns ≡ true → seen (cells ++ more) (Some (root_spot (cells ++ more) root)) ns ≡ shown cells edits ns
@@ -73,7 +73,7 @@ pub record IsMadeAt (cells : List Cell) (touched : Touched) (all : List Cell) (p
   pub within : id < length all
   pub node : (cell_at all id).node ≡ here.node
   pub line : (cell_at all id).line ≡ here.line
-  pub shows : (ns : List Name) → are_names ns ≡ true → seen all (Some (record { id = id; line = here.line })) ns ≡ option_map shown_node (held_from cells touched path (Some here) ns)
+  pub shows : (ns : List Name) → are_names ns ≡ true → seen all (Some (record { id = id; line = here.line })) ns ≡ option_map held_node (held_from cells touched path (Some here) ns)
 
 -- what was made of a path is what stands there
 abbrev pub Agrees : List Cell → Touched → List Cell → List ℕ → Option (Option Held) → Option (Option ℕ) → Type 0
@@ -82,9 +82,9 @@ Agrees cells touched all path (Some None) (Some None) = Unit {0}
 Agrees cells touched all path (Some (Some here)) (Some (Some id)) = IsMadeAt cells touched all path here id
 Agrees cells touched all path edit made = ⊥
 
--- these touched paths have come to cells behind those of the table
+-- each of these touched paths has come to what stands there; there is one cell more for each where something does, and the table is sound with them
 pub record AreSettled (cells : List Cell) (touched : Touched) (more : List Cell) (done : Touched) (made : AllMade) : Type 0 where
-  pub sound : IsSound (cells ++ more)
+  pub sound : IsSoundTable (cells ++ more)
   pub keys : map (λ m. m.0) made ≡ map (λ t. t.0) done
   pub agree : (path : List ℕ) → Agrees cells touched (cells ++ more) path (touched_at done path) (made_at made path)
   pub count : length more ≡ standing done

@@ -1,5 +1,5 @@
 ghost use Rattle.std.specs.Prelude.{◌≡◌, ◌<◌, ◌+◌, ◌++◌, ◌∷◌, [], ℕ, IfOk, OnOk, Some, length, reverse};
-ghost use Rattle.node_table.specs.Tables.{IsSound};
+ghost use Rattle.node_table.specs.Tables.{IsSoundTable};
 ghost use Rattle.tree_settling.specs.Listed.{AreBehind};
 ghost use Rattle.tree_settling.specs.Settled.{IsCellOf, IsAdded, entries_under};
 
@@ -11,7 +11,7 @@ use dsv_base::NoMemory;
 use node_table::cell_of;
 use rev_nodes::{Cell, Entry, NodeId};
 use std::alloc::Global;
-use tree_edits::{Held, copy_line, copy_node};
+use tree_edits::Held;
 
 /// Adds the cell of what stands at a touched path, of which all below it was made before.
 pub(crate) fn add(
@@ -22,7 +22,7 @@ pub(crate) fn add(
     path: &[u8],
     held: &Held,
 ) -> Result<NodeId, NoMemory>
-    requires sound { IsSound cells.now }
+    requires sound { IsSoundTable cells.now }
     requires within { (id : ℕ) → held.now.under ≡ Some id → id < length cells.now }
     requires behind { AreBehind path.now (reverse made.now) }
     ensures number { IfOk result (λ id. id ≡ length cells.now + length more.old.items) }
@@ -43,7 +43,7 @@ fn cell_for(
     path: &[u8],
     held: &Held,
 ) -> Result<Cell, NoMemory>
-    requires sound { IsSound cells.now }
+    requires sound { IsSoundTable cells.now }
     requires within { (id : ℕ) → held.now.under ≡ Some id → id < length cells.now }
     requires behind { AreBehind path.now (reverse made.now) }
     ensures { IfOk result (λ cell. IsCellOf cells.now more.now (reverse made.now) path.now held.now cell) }
@@ -51,8 +51,8 @@ fn cell_for(
     let names = listed(alloc, path, made)?;
     let entries = merged(alloc, entries_under(cells, held), names.as_slice())?;
     let height = height_among(cells, more, entries.get());
-    let node = copy_node(alloc, &held.node, held.node.created)?;
-    let line = copy_line(&held.line)?;
+    let node = held.node.marked(held.node.created)?;
+    let line = held.line.copy()?;
     Ok(Cell {
         node,
         line,

@@ -3,11 +3,11 @@ ghost use Rattle.std.specs.FinMap.{is_sorted};
 ghost use Rattle.std.specs.Ordering.{nat_cmp};
 ghost use Rattle.std.specs.Cmp.Lexicographic.{slice_cmp};
 ghost use Rattle.node_table.specs.Tables.{pair};
-ghost use Rattle.tree_settling.specs.Merged.{AreMerged, before, behind, entry_made};
+ghost use Rattle.tree_settling.specs.Merged.{AreMerged, entries_before, entries_behind, entry_made};
 
 use crate::made::Made;
-use dsv_base::{Bytes, List, NoMemory};
-use rev_nodes::Entry;
+use dsv_base::NoMemory;
+use rev_nodes::{Entry, Shared};
 use std::alloc::Global;
 use std::cmp::Ordering;
 
@@ -16,7 +16,7 @@ pub(crate) fn merged(
     alloc: Global,
     entries: &[Entry],
     changes: &[Made],
-) -> Result<List<Entry>, NoMemory>
+) -> Result<Shared<Entry>, NoMemory>
     requires old { IsTrue (is_sorted (slice_cmp nat_cmp) (map pair entries.now)) }
     requires new { IsTrue (is_sorted (slice_cmp nat_cmp) changes.now) }
     ensures { IfOk result (λ all. AreMerged changes.now entries.now all) }
@@ -27,13 +27,13 @@ pub(crate) fn merged(
         rest = merge_one(alloc, &mut all, rest, change)?;
     }
     copy_all(&mut all, rest)?;
-    Ok(List::of(all))
+    Shared::of(all)
 }
 
 fn copy_entry(entry: &Entry) -> Result<Entry, NoMemory>
     ensures { IfOk result (λ copy. copy ≡ entry.now) }
 {
-    let name = entry.name.copy()?;
+    let name = entry.name.share()?;
     Ok(Entry { name, id: entry.id })
 }
 
@@ -54,8 +54,8 @@ fn merge_one<'a>(
     change: &Made,
 ) -> Result<&'a [Entry], NoMemory>
     ensures all { OnOk result (all.new.items ≡
-        (all.old.items ++ before change.now.0 entries.now) ++ entry_made change.now.0 change.now.1) }
-    ensures rest { IfOk result (λ rest. rest.now ≡ behind change.now.0 entries.now) }
+        (all.old.items ++ entries_before change.now.0 entries.now) ++ entry_made change.now.0 change.now.1) }
+    ensures rest { IfOk result (λ rest. rest.now ≡ entries_behind change.now.0 entries.now) }
 {
     let rest = copy_before(all, entries, change.at())?;
     push_made(alloc, all, change)?;
@@ -68,8 +68,8 @@ fn copy_before<'a>(
     entries: &'a [Entry],
     name: &[u8],
 ) -> Result<&'a [Entry], NoMemory>
-    ensures all { OnOk result (all.new.items ≡ all.old.items ++ before name.now entries.now) }
-    ensures rest { IfOk result (λ rest. rest.now ≡ behind name.now entries.now) }
+    ensures all { OnOk result (all.new.items ≡ all.old.items ++ entries_before name.now entries.now) }
+    ensures rest { IfOk result (λ rest. rest.now ≡ entries_behind name.now entries.now) }
 {
     let mut rest = entries;
     'front: while let [first, after @ ..] = rest {
@@ -92,7 +92,7 @@ fn push_made(alloc: Global, all: &mut Vec<Entry>, change: &Made) -> Result<(), N
     match change.id() {
         None => Ok(()),
         Some(id) => {
-            let name = Bytes::of(alloc, change.at())?;
+            let name = Shared::of(Vec::from_slice(alloc, change.at())?)?;
             all.push(Entry { name, id })?;
             Ok(())
         }

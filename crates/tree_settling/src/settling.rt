@@ -1,5 +1,5 @@
 ghost use Rattle.std.specs.Prelude.{◌≡◌, IfOk, length, reverse};
-ghost use Rattle.node_table.specs.Tables.{IsSound};
+ghost use Rattle.node_table.specs.Tables.{IsSoundTable};
 ghost use Rattle.tree_edits.specs.AreEdits.{AreEdits};
 ghost use Rattle.tree_settling.specs.Listed.{AreBehind};
 ghost use Rattle.tree_settling.specs.Settled.{edits_of, Settles, AreOfEdits, IsOnTable, IsMadeOf, AreSettled, IsSettled, root_made};
@@ -33,7 +33,7 @@ fn settle_touches(
     root: NodeId,
     touches: &[Touch],
 ) -> Result<(Vec<Cell>, NodeId), NoMemory>
-    requires sound { IsSound cells.now }
+    requires sound { IsSoundTable cells.now }
     requires touched { AreOfEdits cells.now touches.now }
     ensures { IfOk result (λ all. Settles cells.now (edits_of root touches.now) all.0.items all.1) }
 {
@@ -51,7 +51,7 @@ fn settle_all<'a>(
     touches: &[Touch<'a>],
 ) -> Result<Vec<Made<'a>>, NoMemory>
     requires none { length more.old.items ≡ 0 }
-    requires sound { IsSound cells.now }
+    requires sound { IsSoundTable cells.now }
     requires touched { AreOfEdits cells.now touches.now }
     ensures { IfOk result (λ made.
         AreSettled cells.now touches.now more.new.items touches.now (reverse made.items)) }
@@ -74,7 +74,7 @@ fn settle_one<'a>(
     made: &[Made<'a>],
     touch: &Touch<'a>,
 ) -> Result<Made<'a>, NoMemory>
-    requires sound { IsSound cells.now }
+    requires sound { IsSoundTable cells.now }
     requires on { IsOnTable cells.now touch.now.1 }
     requires behind { AreBehind touch.now.0 (reverse made.now) }
     ensures { IfOk result (λ one.

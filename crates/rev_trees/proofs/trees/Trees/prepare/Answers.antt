@@ -3,7 +3,7 @@ use Rattle.std.proofs.lemmas.Result.{err_from_is_err_and}
 use Rattle.rev_nodes.specs.declared.cell.Cell.{Cell}
 use Rattle.rev_nodes.specs.Forests.{Forest}
 use Rattle.rev_trees.specs.declared.revision.KeptRevision.{KeptRevision}
-use Rattle.rev_trees.specs.Kept.{trees_in, revisions_in, forest_of, AreKept}
+use Rattle.rev_trees.specs.Kept.{trees_in, seen_revisions, forest_of, AreKept}
 use Rattle.rev_trees.specs.Made.{IsMade, Makes}
 use Rattle.rev_trees.proofs.Viewed.{length-of}
 use Rattle.rev_trees.proofs.Pushing.{made_ready, is_next, not_next, ready_on}
@@ -68,7 +68,7 @@ returns-clause-says c =
     let made : IsMade c.self.inside.table.cells (trees_in c.self.inside.revisions.items) c.args.commit c.in_ok-next.next =
     subst (λ (cs : List Cell). IsMade cs (trees_in c.self.inside.revisions.items) c.args.commit c.in_ok-next.next) c.cells-cells.ensures.cells
     (subst (λ (rs : List KeptRevision). IsMade c.cells-cells.result.now (trees_in rs) c.args.commit c.in_ok-next.next) (c.as_slice.ensures.value ∙ c.reserve.ensures.items) c.in_ok-next.ensures) in
-    let same = (λ i. revisions_in (c.reserve-2.ensures.kept.cells i) (c.reserve.ensures.items i) (trees_in (c.reserve.ensures.items i))) ∙ ap (λ (f : Forest). f.revisions) c.self.view_is in (
+    let same = (λ i. seen_revisions (c.reserve-2.ensures.kept.cells i) (c.reserve.ensures.items i) (trees_in (c.reserve.ensures.items i))) ∙ ap (λ (f : Forest). f.revisions) c.self.view_is in (
       omega arith,
       ready_on (forest_of c.self.inside.name c.self.inside.uuid c.reserve-2.new.self.cells c.reserve.new.self.items (vec_capacity c.reserve.new.self - vec_len c.reserve.new.self) c.reserve-2.new.self.room) (forest_of c.self.inside.name c.self.inside.uuid c.reserve-2.new.self.cells c.reserve.new.self.items (vec_capacity c.reserve.new.self - vec_len c.reserve.new.self) c.reserve-2.new.self.room) c.in_ok-next.next.revision.commit c.in_ok-next.next.revision.changed c.in_ok-next.next.cells.items c.of.result c.of.ensures refl refl (omega (arith, room)) (omega (arith, node_room, nodes)),
       is_next c.self.inside.name c.self.inside.uuid c.self.inside.table.cells c.self.inside.revisions.items _ _ c.args.self.now (forest_of c.self.inside.name c.self.inside.uuid c.reserve-2.new.self.cells c.reserve.new.self.items (vec_capacity c.reserve.new.self - vec_len c.reserve.new.self) c.reserve-2.new.self.room) c.self.view_is same c.args.commit c.in_ok-next.next made c.of.result c.of.ensures,

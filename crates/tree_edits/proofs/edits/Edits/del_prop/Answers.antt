@@ -5,7 +5,7 @@ use Rattle.rev_nodes.specs.declared.kind.Kind.TheVariants.{File, Dir}
 use Rattle.rev_nodes.specs.declared.node.Node.{Node}
 use Rattle.rev_nodes.specs.Changes.{with_prop, without_prop}
 use Rattle.tree_edits.specs.Edits.{Held}
-use Rattle.tree_edits.specs.Hanging.{with_text, with_props}
+use Rattle.tree_edits.specs.Hanging.{held_with_text, held_with_props}
 use Rattle.tree_edits.proofs.Steps.{over_does, add_does, text_over, put_exists, file_added, dir_added, dir_exists, prop_set, prop_deleted, none_to_set, none_to_delete}
 use Rattle.tree_edits.proofs.edits.Edits.del_prop.Goals as goal
 
@@ -16,4 +16,4 @@ pub returns-in_ok-held-in-Some : goal.returns-in_ok-held-in-Some
 returns-in_ok-held-in-Some c =
     over_does c.args.rev c.args.cells.now c.args.self.now c.hang.new.self c.requires (changes.DelProp c.args.path.now c.args.name.now) c.args.path.now c.in_ok-look.ensures.path c.in-Some.place c.in_ok-held-in-Some.held (sym c.in_ok-look.ensures.place ∙ c.in-Some.is)
     (prop_deleted c.args.rev c.args.path.now c.args.name.now c.in-Some.place c.in_ok-held-in-Some.held
-    (c.in_ok-held-in-Some.ensures ∙ ap (λ (ps : List Prop). with_props c.args.rev ps c.in-Some.place) (c.in_ok-props-in-Some.ensures ∙ ap (without_prop c.args.name.now) (c.get.ensures ∙ ap (λ (n : Node). n.props) c.node.ensures)))) c.hang.result c.hang.ensures.says c.hang.ensures.root
+    (c.in_ok-held-in-Some.ensures ∙ ap (λ (ps : List Prop). held_with_props c.args.rev ps c.in-Some.place) (c.in_ok-props-in-Some.ensures ∙ ap (without_prop c.args.name.now) (c.get.ensures ∙ ap (λ (n : Node). n.props) c.node.ensures)))) c.hang.result c.hang.ensures.says c.hang.ensures.root

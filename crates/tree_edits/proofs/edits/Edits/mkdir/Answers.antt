@@ -4,7 +4,7 @@ use Rattle.rev_nodes.specs.declared.change.Change.TheVariants as changes
 use Rattle.rev_nodes.specs.declared.kind.Kind.TheVariants.{File, Dir}
 use Rattle.rev_nodes.specs.Changes.{with_prop, without_prop}
 use Rattle.tree_edits.specs.Edits.{Held}
-use Rattle.tree_edits.specs.Hanging.{with_text, with_props}
+use Rattle.tree_edits.specs.Hanging.{held_with_text, held_with_props}
 use Rattle.tree_edits.proofs.Steps.{over_does, add_does, text_over, put_exists, file_added, dir_added, dir_exists, prop_set, prop_deleted, none_to_set, none_to_delete}
 use Rattle.tree_edits.proofs.edits.Edits.mkdir.Goals as goal
 
@@ -15,4 +15,4 @@ pub returns-in-None : goal.returns-in-None
 returns-in-None c =
     let dir = λ (t : List ℕ). let h : Held = record { node = record { kind = Dir; props = []; text = t; created = c.args.rev }; line = record { since = c.args.rev; source = None }; under = None } in h in
     add_does c.args.rev c.args.cells.now c.args.self.now c.hang.new.self c.requires (changes.Mkdir c.args.path.now) c.args.path.now c.in_ok-_place.ensures.path c.new_held-held.result (sym c.in_ok-_place.ensures.place ∙ c.in-None.is)
-    (dir_added c.args.rev c.args.cells.now c.args.path.now c.new_held-held.result (c.new_held-held.ensures ∙ ap dir (c.from_vec.ensures ∙ c.new.ensures.items))) c.hang.result c.hang.ensures.says c.hang.ensures.root
+    (dir_added c.args.rev c.args.cells.now c.args.path.now c.new_held-held.result (c.new_held-held.ensures ∙ ap dir c.empty.ensures)) c.hang.result c.hang.ensures.says c.hang.ensures.root

@@ -1,7 +1,7 @@
 use Rattle.std.proofs.Common.{◌≡◌, ◌≤◌, ℕ, List, length, sym, subst, arith}
 use Rattle.node_table.specs.Ways.{names_in}
 use Rattle.node_table.proofs.PathNames.{names_of_path}
-use Rattle.tree_edits.proofs.copying.is_short.Goals as goal
+use Rattle.tree_edits.proofs.copy.is_short.Goals as goal
 
 pub overflow_sub-depth : goal.overflow_sub-depth
 overflow_sub-depth c =

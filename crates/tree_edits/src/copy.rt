@@ -4,7 +4,7 @@ ghost use Rattle.rev_nodes.specs.declared.change.Change.TheVariants as told;
 ghost use Rattle.rev_nodes.specs.Trees.{Tree};
 ghost use Rattle.rev_nodes.specs.Changes.{has_parent};
 ghost use Rattle.node_table.specs.Ways.{names_in};
-ghost use Rattle.node_table.specs.Tables.{reach, IsSound};
+ghost use Rattle.node_table.specs.Tables.{reach, IsSoundTable};
 ghost use Rattle.node_table.specs.Limits.{AllFit, HasLong};
 ghost use Rattle.node_table.specs.Steps.{IsSource};
 ghost use Rattle.tree_edits.specs.Edits.{AreShown};
@@ -13,7 +13,6 @@ ghost use Rattle.tree_edits.specs.Reading.{CanReadEdits};
 ghost use Rattle.tree_edits.specs.Hanging.{copied_held};
 ghost use Rattle.tree_edits.specs.Applied.{Does};
 
-use crate::copies::copy_node;
 use crate::edits::Edits;
 use crate::held::Held;
 use dsv_base::{NoMemory, Path, Rev};
@@ -23,7 +22,6 @@ use std::alloc::Global;
 
 /// What a copy of a node of the table, which stands at the source, puts at a path.
 fn copied_held(
-    alloc: Global,
     node: &Node,
     id: NodeId,
     source: &Path,
@@ -32,7 +30,7 @@ fn copied_held(
 ) -> Result<Held, NoMemory>
     ensures { IfOk result (λ held. held ≡ copied_held rev source.now source_rev id node.now) }
 {
-    let node = copy_node(alloc, node, rev)?;
+    let node = node.marked(rev)?;
     let source = source.copy()?;
     Ok(Held {
         node,
@@ -46,7 +44,7 @@ fn copied_held(
 
 /// Whether all that a copy of the node to the path makes has paths.
 fn is_short(cells: &[Cell], id: NodeId, path: &Path) -> bool
-    requires sound { IsSound cells.now }
+    requires sound { IsSoundTable cells.now }
     requires within { id < length cells.now }
     ensures all { result ≡ true → AllFit cells.now (64 - length (names_in path.now)) (1024 - length path.now) id }
     ensures some { result ≡ false → HasLong cells.now (64 - length (names_in path.now)) (1024 - length path.now) id }
@@ -123,7 +121,7 @@ impl Edits {
             return Err(Unfit::TooLong);
         }
         let node = &cell_of(cells, id).node;
-        let held = copied_held(alloc, node, id, source, source_rev, rev)?;
+        let held = copied_held(node, id, source, source_rev, rev)?;
         self.hang(alloc, cells, path, Some(held), rev)
     }
 }
