@@ -2,6 +2,7 @@
 //! give, and users with the requests that come from them. For each table it is said what is answered to a row.
 #![tactic(auto)]
 
+mod drafts;
 mod messages;
 mod nodes;
 mod reading;

@@ -4,6 +4,7 @@ use dsv_base::{Path, Rev};
 use rev_nodes::{Changed, Kind, Line, Mark, Node};
 use rev_trees::Trees;
 use row_files::Answer;
+use std::alloc::Global;
 
 /// The kind of the node at a path of a revision, its `created` and its text.
 pub fn put_node(trees: &Trees, rev: Rev, path: Option<Path>, out: &mut Answer)
@@ -12,6 +13,19 @@ pub fn put_node(trees: &Trees, rev: Rev, path: Option<Path>, out: &mut Answer)
     match path {
         Some(path) => match trees.look(rev, &path) {
             Some(id) => put_node_of(trees.node(id), out),
+            None => out.put(b"none"),
+        },
+        None => out.give_up(),
+    }
+}
+
+/// The MD5 of the text at a path of a revision.
+pub fn put_checksum(alloc: Global, trees: &Trees, rev: Rev, path: Option<Path>, out: &mut Answer)
+    requires { rev < length trees.now.revisions }
+{
+    match path {
+        Some(path) => match trees.look(rev, &path) {
+            Some(id) => out.put_shown(hex::encode(alloc, trees.node(id).text.md5())),
             None => out.put(b"none"),
         },
         None => out.give_up(),
@@ -72,7 +86,7 @@ fn put_source(source: &Option<(Path, Rev)>, out: &mut Answer) {
     }
 }
 
-fn kind_word(kind: Kind) -> &'static [u8] {
+pub fn kind_word(kind: Kind) -> &'static [u8] {
     match kind {
         Kind::File => b"file",
         Kind::Dir => b"directory",

@@ -1,6 +1,7 @@
 ghost use Rattle.std.specs.Prelude.{length, ◌<◌};
 
-use crate::nodes::{put_changes, put_line, put_node};
+use crate::drafts::put_draft;
+use crate::nodes::{put_changes, put_checksum, put_line, put_node};
 use crate::reading::trees_of;
 use dsv_base::Rev;
 use rev_scripts::{ScriptFault, write_revision};
@@ -17,6 +18,9 @@ pub enum ScriptTable {
     Node,
     Changed,
     Line,
+    Checksum,
+    Nodes,
+    Draft,
 }
 
 /// Answers a row of such a table; the line of a script that isn't taken.
@@ -36,6 +40,7 @@ fn answer_of_trees(table: ScriptTable, trees: &Trees, given: &Given<'_>, out: &m
         ScriptTable::Script => out.put(b"whole"),
         ScriptTable::Repository => put_repository(trees, out),
         ScriptTable::Written => put_revisions(trees, given.alloc, out),
+        ScriptTable::Nodes => out.put_number(trees.node_count()),
         _ => match given.revision(1) {
             Some(rev) => answer_of_revision(table, trees, rev, given, out),
             None => out.give_up(),
@@ -83,6 +88,8 @@ fn answer_of_revision(
     match table {
         ScriptTable::Node => put_node(trees, rev, given.path(2), out),
         ScriptTable::Changed => put_changes(trees.changed(rev), out),
+        ScriptTable::Checksum => put_checksum(given.alloc, trees, rev, given.path(2), out),
+        ScriptTable::Draft => put_draft(trees, rev, given, out),
         _ => put_line(trees, rev, given.path(2), out),
     }
 }

@@ -12,13 +12,16 @@ enum Table {
 }
 
 /// The tables by name.
-const TABLES: [(&str, Table); 14] = [
+const TABLES: [(&str, Table); 17] = [
     ("script", Table::Script(ScriptTable::Script)),
     ("repository", Table::Script(ScriptTable::Repository)),
     ("written revisions", Table::Script(ScriptTable::Written)),
     ("node", Table::Script(ScriptTable::Node)),
     ("changed paths", Table::Script(ScriptTable::Changed)),
     ("line of a node", Table::Script(ScriptTable::Line)),
+    ("checksum", Table::Script(ScriptTable::Checksum)),
+    ("nodes", Table::Script(ScriptTable::Nodes)),
+    ("draft", Table::Script(ScriptTable::Draft)),
     ("rules", Table::Right(RightTable::Rules)),
     ("rights", Table::Right(RightTable::Rights)),
     ("messages", Table::Message(MessageTable::Messages)),
