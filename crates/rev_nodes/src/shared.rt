@@ -12,7 +12,7 @@ pub struct Shared<T> {
 }
 
 impl<T> Model for Shared<T> {
-    ghost use Rattle.std.specs.Prelude.{List, []};
+    ghost use Rattle.std.specs.Prelude.{List, [], vec_items};
     ghost use Rattle.std.specs.Coded.{coded_list};
     ghost use Rattle.std.specs.Option.{option_map_or};
     ghost use Rattle.std.specs.Arc.{arc_value};
@@ -21,7 +21,7 @@ impl<T> Model for Shared<T> {
 
     ghost coded = { coded_list T.code };
 
-    ghost view = { λ s. option_map_or (λ a. (arc_value a).items) s.items [] };
+    ghost view = { λ s. option_map_or (λ a. vec_items (arc_value a)) s.items [] };
 }
 
 impl<T: Drop> Shared<T> {

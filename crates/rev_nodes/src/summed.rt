@@ -9,7 +9,7 @@ use std::marker::Model;
 #[derive(Debug, Drop)]
 pub(crate) struct Summed {
     bytes: Bytes,
-    md5: [u8; 16],
+    sum: [u8; 16],
 }
 
 impl Model for Summed {
@@ -20,7 +20,7 @@ impl Model for Summed {
 
     ghost view = { λ s. s.bytes };
 
-    ghost invariant = { λ s. s.md5 ≡ md5 s.bytes };
+    ghost invariant = { λ s. s.sum ≡ md5 s.bytes };
 }
 
 impl Summed {
@@ -28,8 +28,8 @@ impl Summed {
     pub(crate) fn of(bytes: Bytes) -> Summed
         ensures { result ≡ bytes }
     {
-        let md5 = Md5::digest(bytes.get());
-        Summed { bytes, md5 }
+        let sum = Md5::digest(bytes.get());
+        Summed { bytes, sum }
     }
 
     pub(crate) fn bytes(&self) -> &Bytes
@@ -41,6 +41,6 @@ impl Summed {
     pub(crate) fn md5(&self) -> [u8; 16]
         ensures { result ≡ md5 self.now }
     {
-        self.md5
+        self.sum
     }
 }
