@@ -1,6 +1,6 @@
 -- A table with a root of its own shows the root alone.
-use Rattle.std.proofs.Common.{Result, Ok, Err, ◌≡◌, ℕ, ◌≤◌, Bool, true, false, cond, List, [], ◌∷◌, ◌++◌, None, Some, length, refl, sym, ap, subst, ◌∙◌, arith, length-append}
-use Rattle.std.specs.Prelude.{IsTrue, IfOk, OnOk, OnErr, is_some}
+use Rattle.std.proofs.Common.{Result, Ok, Err, ◌≡◌, ℕ, ◌≤◌, Bool, true, false, cond, List, [], ◌∷◌, ◌++◌, None, Some, length, refl, sym, ap, subst, ◌∙◌, arith, length-append, append-nil}
+use Rattle.std.specs.Prelude.{IsTrue, IfOk, OnOk, OnErr, is_some, is_ok, if◌then◌else◌}
 use Rattle.std.specs.Option.{option_map}
 use Rattle.std.specs.Ordering.{nat_cmp, eq_by_cmp}
 use Rattle.std.specs.Cmp.Lexicographic.{slice_cmp}
@@ -15,7 +15,7 @@ use Rattle.rev_nodes.specs.declared.cell.Cell.{Cell}
 use Rattle.rev_nodes.specs.Subtrees.{path_below}
 use Rattle.node_table.specs.Ways.{Name, are_names}
 use Rattle.node_table.specs.Tables.{entries_rise, height_over, cell_at, child, spot_in, spot_node, seen, IsSoundTable}
-use Rattle.node_table.specs.Rebuilt.{root_spot}
+use Rattle.node_table.specs.Rebuilt.{root_spot, IsLonger}
 use Rattle.node_table.specs.Shown.{IsShown}
 use Rattle.node_table.specs.Steps.{IsBase, new_cell}
 use Rattle.node_table.proofs.Fronts.{not-root}
@@ -26,6 +26,10 @@ use Rattle.node_table.proofs.Growing.{cell_at-next, no_cell_sound, sound-more, w
 pub ok_both : {X E : Type 0} (r : Result X E) (P : X → Type 0) (Q : Type 0) (R : X → Type 0) → IfOk r P → OnOk r Q → ((x : X) → P x → Q → R x) → IfOk r R
 ok_both (Ok x) P Q R p q go = go x p q
 ok_both (Err e) P Q R p q go = tt
+
+pub pushed_longer : {X E : Type 0} (r : Result X E) (old new : List Cell) (cell : Cell) → new ≡ (if is_ok r then old ++ cell ∷ [] else old) → IsLonger old new
+pushed_longer (Ok x) old new cell is = record { more = cell ∷ []; is = is }
+pushed_longer (Err e) old new cell is = record { more = []; is = is ∙ sym (append-nil old) }
 
 abbrev pub root_tree : ℕ → Tree
 root_tree r = (root_text, new_dir r) ∷ []
