@@ -3,6 +3,7 @@
 
 mod adding;
 mod heights;
+mod inside;
 mod listing;
 mod made;
 mod merging;
