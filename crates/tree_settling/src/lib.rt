@@ -2,6 +2,7 @@
 #![tactic(auto)]
 
 mod adding;
+mod cutting;
 mod heights;
 mod inside;
 mod listing;
