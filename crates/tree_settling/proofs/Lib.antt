@@ -1,5 +1,6 @@
 pub mod Rising
 pub mod Merges
+pub mod Cuttings
 pub mod Lists
 pub mod Scans
 pub mod Growths

@@ -1,5 +1,5 @@
 -- Entries of a directory, with what was made of some names.
-use Rattle.std.specs.Prelude.{ℕ, ◌≡◌, List, [], ◌∷◌, Option, None, Some, map, IsTrue}
+use Rattle.std.specs.Prelude.{ℕ, ◌≡◌, ◌<◌, ◌≤◌, ◌+◌, List, [], ◌∷◌, Option, None, Some, map, length, take, drop, slice_index_or, IsTrue}
 use Rattle.std.specs.FinMap.{find, is_sorted}
 use Rattle.std.specs.Ordering.{nat_cmp}
 use Rattle.std.specs.declared.cmp.Ordering.{Ordering}
@@ -53,3 +53,16 @@ behind_by Greater e es rest = rest
 abbrev pub entries_behind : Name → List Entry → List Entry
 entries_behind name [] = []
 entries_behind name (e ∷ es) = behind_by (slice_cmp nat_cmp name e.name) e es (entries_behind name es)
+
+-- at this index stands the entry of the name, before it stand the entries before the name, and behind it those behind the name
+pub record CutsAt (name : Name) (entries : List Entry) (index : ℕ) : Type 0 where
+  pub within : index < length entries
+  pub own : (d : Entry) → (slice_index_or entries index d).name ≡ name
+  pub before : take index entries ≡ entries_before name entries
+  pub behind : drop (index + 1) entries ≡ entries_behind name entries
+
+-- before this index stand the entries before the name, and from it on those behind the name
+pub record CutsBefore (name : Name) (entries : List Entry) (index : ℕ) : Type 0 where
+  pub within : index ≤ length entries
+  pub before : take index entries ≡ entries_before name entries
+  pub behind : drop index entries ≡ entries_behind name entries

@@ -2,7 +2,9 @@
 #![tactic(auto)]
 
 mod adding;
+mod cutting;
 mod heights;
+mod inside;
 mod listing;
 mod made;
 mod merging;

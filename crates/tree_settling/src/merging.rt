@@ -1,27 +1,29 @@
-ghost use Rattle.std.specs.Prelude.{◌≡◌, ◌++◌, IfOk, OnOk, IsTrue, map};
+ghost use Rattle.std.specs.Prelude.{◌≡◌, ◌++◌, IfOk, IfSome, OnOk, IsTrue};
 ghost use Rattle.std.specs.FinMap.{is_sorted};
+ghost use Rattle.std.specs.Option.{option_copied};
 ghost use Rattle.std.specs.Ordering.{nat_cmp};
 ghost use Rattle.std.specs.Cmp.Lexicographic.{slice_cmp};
-ghost use Rattle.node_table.specs.Tables.{pair};
+ghost use Rattle.node_table.specs.Tables.{entries_rise};
 ghost use Rattle.tree_settling.specs.Merged.{AreMerged, entries_before, entries_behind, entry_made};
 
+use crate::cutting::cut_at_name;
 use crate::made::Made;
 use dsv_base::NoMemory;
 use rev_nodes::{Entry, Shared};
 use std::alloc::Global;
-use std::cmp::Ordering;
 
-/// The entries with what was made of some names. Both stand in byte order of the names.
+/// The entries with what was made of some names. Both stand in byte order of the names. Each name
+/// that stays is held together with the old entry's.
 pub(crate) fn merged(
     alloc: Global,
     entries: &[Entry],
     changes: &[Made],
 ) -> Result<Shared<Entry>, NoMemory>
-    requires old { IsTrue (is_sorted (slice_cmp nat_cmp) (map pair entries.now)) }
+    requires old { IsTrue (entries_rise entries.now) }
     requires new { IsTrue (is_sorted (slice_cmp nat_cmp) changes.now) }
     ensures { IfOk result (λ all. AreMerged changes.now entries.now all) }
 {
-    let mut all = Vec::with_capacity(alloc, entries.len())?;
+    let mut all = Vec::with_capacity(alloc, entries.len().saturating_add(changes.len()))?;
     let mut rest = entries;
     'changes: for change in changes {
         rest = merge_one(alloc, &mut all, rest, change)?;
@@ -53,48 +55,44 @@ fn merge_one<'a>(
     entries: &'a [Entry],
     change: &Made,
 ) -> Result<&'a [Entry], NoMemory>
+    requires { IsTrue (entries_rise entries.now) }
     ensures all { OnOk result (all.new.items ≡
         (all.old.items ++ entries_before change.now.0 entries.now) ++ entry_made change.now.0 change.now.1) }
     ensures rest { IfOk result (λ rest. rest.now ≡ entries_behind change.now.0 entries.now) }
 {
-    let rest = copy_before(all, entries, change.at())?;
-    push_made(alloc, all, change)?;
-    Ok(rest)
+    let cut = cut_at_name(entries, change.at());
+    copy_all(all, cut.before)?;
+    push_made(alloc, all, change, cut.here)?;
+    Ok(cut.behind)
 }
 
-/// Adds the entries before a name, and gives those behind it.
-fn copy_before<'a>(
+/// Adds the entry of a name, where something was made of it. `here` is its old entry, if it had one.
+fn push_made(
+    alloc: Global,
     all: &mut Vec<Entry>,
-    entries: &'a [Entry],
-    name: &[u8],
-) -> Result<&'a [Entry], NoMemory>
-    ensures all { OnOk result (all.new.items ≡ all.old.items ++ entries_before name.now entries.now) }
-    ensures rest { IfOk result (λ rest. rest.now ≡ entries_behind name.now entries.now) }
-{
-    let mut rest = entries;
-    'front: while let [first, after @ ..] = rest {
-        match name.cmp(first.name.get()) {
-            Ordering::Less => return Ok(rest),
-            Ordering::Equal => return Ok(after),
-            Ordering::Greater => {
-                all.push(copy_entry(first)?)?;
-                rest = after;
-            }
-        }
-    }
-    Ok(rest)
-}
-
-/// Adds the entry of a name, where something was made of it.
-fn push_made(alloc: Global, all: &mut Vec<Entry>, change: &Made) -> Result<(), NoMemory>
+    change: &Made,
+    here: Option<&Entry>,
+) -> Result<(), NoMemory>
+    requires { IfSome (option_copied here) (λ e. e.name ≡ change.now.0) }
     ensures { OnOk result (all.new.items ≡ all.old.items ++ entry_made change.now.0 change.now.1) }
 {
     match change.id() {
         None => Ok(()),
         Some(id) => {
-            let name = Shared::of(Vec::from_slice(alloc, change.at())?)?;
+            let name = name_held(alloc, change.at(), here)?;
             all.push(Entry { name, id })?;
             Ok(())
         }
+    }
+}
+
+/// A name, which is held together with that of an entry that has it, if there is one.
+fn name_held(alloc: Global, name: &[u8], here: Option<&Entry>) -> Result<Shared<u8>, NoMemory>
+    requires { IfSome (option_copied here) (λ e. e.name ≡ name.now) }
+    ensures { IfOk result (λ held. held ≡ name.now) }
+{
+    match here {
+        Some(entry) => entry.name.share(),
+        None => Shared::of(Vec::from_slice(alloc, name)?),
     }
 }

@@ -1,7 +1,12 @@
 use Rattle.std.proofs.Common.{◌≡◌, ◌++◌, drop}
+use Rattle.std.specs.Prelude.{IsTrue}
+use Rattle.node_table.specs.Tables.{entries_rise}
 use Rattle.tree_settling.proofs.Merges.{zipped}
 use Rattle.tree_settling.proofs.merging.merged.Given as goal
 
 -- what is merged so far, and what the rest comes to, is all
 abbrev pub invariant-changes : goal.invariant-changes
-invariant-changes l = l.all.items ++ zipped (drop l.change-index l.changes) l.rest ≡ zipped l.changes l.entries
+invariant-changes l = record {
+  all : l.all.items ++ zipped (drop l.change-index l.changes) l.rest ≡ zipped l.changes l.entries;
+  rise : IsTrue (entries_rise l.rest);
+}
