@@ -6,6 +6,8 @@ pub mod Texts
 pub mod Over
 pub mod Views
 pub mod StepsDown
+pub mod Glances
+pub mod Grown
 pub mod Kept
 pub mod Parents
 pub mod Doing
