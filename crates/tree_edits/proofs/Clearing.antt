@@ -1,18 +1,17 @@
 -- Edits without what was touched below a path.
-use Rattle.std.proofs.Common.{◌≡◌, ℕ, ◌+◌, ◌<◌, ◌≤◌, Bool, true, false, cond, not, ◌&&◌, List, [], ◌∷◌, ◌++◌, Option, None, Some, length, refl, sym, ap, subst, ◌∙◌, arith, length-append}
-use Rattle.std.specs.Prelude.{is_some, if◌then◌else◌}
+use Rattle.std.proofs.Common.{◌≡◌, ℕ, ◌<◌, Bool, true, false, cond, not, List, ◌∷◌, ◌++◌, Option, None, Some, length, refl, sym, ap, ◌∙◌, arith, length-append}
 use Rattle.std.specs.Str.{bytes_eq}
 use Rattle.std.specs.Ordering.{nat_cmp}
 use Rattle.std.specs.Cmp.Lexicographic.{slice_cmp}
 use Rattle.std.specs.FinMap.Entries.{find-where_key}
 use Rattle.std.proofs.lemmas.Bool.{and_parts, and_from}
 use Rattle.std.proofs.lemmas.Map.Lookups.{exact_bytes}
-use Rattle.dsv_base.specs.Paths.{is_path, is_under, root_text, parent_text, front_of}
+use Rattle.dsv_base.specs.Paths.{is_path, is_under, root_text, parent_text}
 use Rattle.dsv_base.proofs.Joins.{parent_is_path}
 use Rattle.rev_nodes.specs.declared.cell.Cell.{Cell}
-use Rattle.rev_nodes.proofs.Below.{equal_itself, differ, front_long, behind, under_parent, under_itself}
+use Rattle.rev_nodes.proofs.Below.{differ, front_long, behind, under_parent, under_itself}
 use Rattle.tree_edits.specs.Edits.{Held, Touched, touched_at}
-use Rattle.tree_edits.specs.AreEdits.{IsInDir, IsPlaced, AreTouched}
+use Rattle.tree_edits.specs.AreEdits.{IsInDir, AreTouched}
 use Rattle.tree_edits.specs.Hanging.{is_below, cleared}
 use Rattle.tree_edits.proofs.Lists.{order-cleared}
 use Rattle.tree_edits.proofs.Kept.{shorter_parent}

@@ -1,6 +1,6 @@
 -- A delete does what it is to do.
-use Rattle.std.proofs.Common.{Result, Ok, Err, ◌≡◌, ℕ, suc, ◌+◌, ◌<◌, ◌≤◌, Bool, true, false, cond, not, ◌&&◌, List, [], ◌∷◌, ◌++◌, Option, None, Some, length, refl, sym, ap, subst, ◌∙◌, arith, append-nil, append_assoc}
-use Rattle.std.specs.Prelude.{is_some, filter, if◌then◌else◌, MatchBool}
+use Rattle.std.proofs.Common.{◌≡◌, ℕ, suc, ◌+◌, ◌≤◌, Bool, true, false, cond, not, ◌&&◌, List, [], ◌∷◌, ◌++◌, Option, None, Some, length, refl, sym, ap, subst, ◌∙◌, arith, append-nil, append_assoc}
+use Rattle.std.specs.Prelude.{is_some, if◌then◌else◌, MatchBool}
 use Rattle.std.specs.Option.{option_map}
 use Rattle.std.specs.Str.{bytes_eq}
 use Rattle.dsv_base.specs.Paths.{is_path, is_under, root_text, parent_text, or_root, before_last_slash}
@@ -8,7 +8,7 @@ use Rattle.rev_nodes.specs.declared.cell.Cell.{Cell}
 use Rattle.rev_nodes.specs.declared.change.Change.TheVariants as changes
 use Rattle.rev_nodes.specs.declared.unfit.Unfit.{Unfit}
 use Rattle.rev_nodes.specs.declared.unfit.Unfit.TheVariants as whys
-use Rattle.rev_nodes.specs.Trees.{TreeNode, Tree, at}
+use Rattle.rev_nodes.specs.Trees.{Tree, at}
 use Rattle.rev_nodes.specs.Changes.{unfit, apply, marked, without}
 use Rattle.rev_nodes.specs.Fitting.{is_want}
 use Rattle.rev_nodes.proofs.Below.{long}
@@ -17,14 +17,14 @@ use Rattle.rev_nodes.specs.Subtrees.{path_below}
 use Rattle.node_table.specs.Ways.{Name, are_names, names_in, is_front}
 use Rattle.node_table.specs.Tables.{cell_at}
 use Rattle.node_table.specs.Rebuilt.{stamped}
-use Rattle.node_table.specs.Steps.{AreSources, HasSource}
+use Rattle.node_table.specs.Steps.{AreSources}
 use Rattle.node_table.proofs.Ways.{names-append}
 use Rattle.node_table.proofs.PathNames.{names_of_path}
 use Rattle.node_table.proofs.Fronts.{under-front, front-more, front-append}
-use Rattle.tree_edits.specs.Edits.{Held, Touched, EditedTree, touched_at, held_in, or_touched, held_from, held_root, held, held_node, shown, AreShown}
+use Rattle.tree_edits.specs.Edits.{Held, Touched, EditedTree, held_in, or_touched, held_from, held_root, held, held_node, shown, AreShown}
 use Rattle.tree_edits.specs.AreEdits.{AreEdits}
 use Rattle.tree_edits.specs.Hanging.{is_below, cleared, hung_in, hung_at}
-use Rattle.tree_edits.specs.Applied.{IsChangeDone, Does}
+use Rattle.tree_edits.specs.Applied.{IsChangeDone}
 use Rattle.tree_edits.proofs.Views.{over_shown}
 use Rattle.tree_edits.proofs.Kept.{gone_fits}
 use Rattle.tree_edits.proofs.Clearing.{still_there, cleared_kept, none_touched}

@@ -1,25 +1,25 @@
 -- What the edits show and keep after a change of one place.
-use Rattle.std.proofs.Common.{◌≡◌, ℕ, zero, suc, ◌+◌, ◌<◌, ◌≤◌, Bool, true, false, cond, List, [], ◌∷◌, ◌++◌, Option, None, Some, length, refl, sym, ap, subst, ◌∙◌, arith}
-use Rattle.std.specs.Prelude.{is_some, if◌then◌else◌}
+use Rattle.std.proofs.Common.{◌≡◌, ℕ, ◌+◌, ◌<◌, ◌≤◌, true, List, [], ◌∷◌, ◌++◌, Option, None, Some, length, refl, sym, ap, subst, ◌∙◌, arith}
+use Rattle.std.specs.Prelude.{is_some}
 use Rattle.std.specs.Option.{option_map}
 use Rattle.std.proofs.lemmas.Bool.{and_parts, and_from}
 use Rattle.dsv_base.specs.Paths.{is_path, is_component, root_text, parent_text, join_text}
 use Rattle.rev_nodes.specs.declared.cell.Cell.{Cell}
 use Rattle.rev_nodes.specs.declared.line.Line.{Line}
-use Rattle.rev_nodes.specs.Trees.{TreeNode, Tree, at, is_dir_kind}
+use Rattle.rev_nodes.specs.Trees.{TreeNode, Tree, at}
 use Rattle.rev_nodes.specs.Changes.{marked, placed}
 use Rattle.rev_nodes.specs.Subtrees.{path_below}
 use Rattle.node_table.specs.Ways.{Name, are_names, names_in}
-use Rattle.node_table.specs.Tables.{cell_at, IsSoundTable}
+use Rattle.node_table.specs.Tables.{cell_at}
 use Rattle.node_table.specs.Rebuilt.{stamped}
-use Rattle.node_table.proofs.Ways.{path_at-more, path_at-append, names-append}
+use Rattle.node_table.proofs.Ways.{path_at-more, names-append}
 use Rattle.node_table.proofs.PathNames.{names_of_path}
 use Rattle.tree_edits.specs.Edits.{Held, Touched, EditedTree, touched_at, held_in, child_of, or_touched, held_from, held_root, held, held_node, shown, AreShown}
 use Rattle.tree_edits.specs.AreEdits.{IsHeld, AreTouched, AreEdits}
 use Rattle.tree_edits.specs.Hanging.{marked_held, child_held, with_edit, marked_at, hung_in, hung_at}
-use Rattle.tree_edits.proofs.Lists.{in_order, is_same, order-with, length-with}
+use Rattle.tree_edits.proofs.Lists.{in_order, order-with, length-with}
 use Rattle.tree_edits.proofs.Texts.{names_more, parent_at, parent_root, longer-join, longer_apart}
-use Rattle.tree_edits.proofs.Views.{Off, longer_at, none_from, held-append, same_below, stepped, off_kept, hung_view, placed_shown}
+use Rattle.tree_edits.proofs.Views.{Off, longer_at, none_from, held-append, same_below, stepped, off_kept, placed_shown}
 use Rattle.tree_edits.proofs.Kept.{IsHere, IsPlace, EditFits, held_here, place_fits, fresh_fits, Ends, kept_in}
 
 -- ---- counts

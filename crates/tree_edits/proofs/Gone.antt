@@ -1,22 +1,19 @@
 -- A place is taken away, with all below it.
-use Rattle.std.proofs.Common.{◌≡◌, ℕ, suc, ◌+◌, ◌<◌, ◌≤◌, Bool, true, false, cond, not, ◌&&◌, List, [], ◌∷◌, ◌++◌, Option, None, Some, length, refl, sym, ap, subst, ◌∙◌, arith, append-nil, append_assoc}
-use Rattle.std.specs.Prelude.{is_some, if◌then◌else◌}
-use Rattle.std.specs.Option.{option_map}
+use Rattle.std.proofs.Common.{◌≡◌, ℕ, ◌≤◌, Bool, true, false, cond, not, List, [], ◌∷◌, ◌++◌, Option, None, Some, length, refl, sym, ap, ◌∙◌, arith, append_assoc}
+use Rattle.std.specs.Prelude.{if◌then◌else◌}
 use Rattle.std.specs.Str.{bytes_eq}
 use Rattle.std.proofs.lemmas.Bool.{and_parts, and_from}
-use Rattle.dsv_base.specs.Paths.{is_path, is_component, is_under, root_text, join_text}
+use Rattle.dsv_base.specs.Paths.{is_path, is_component, root_text, join_text}
 use Rattle.rev_nodes.specs.declared.cell.Cell.{Cell}
-use Rattle.rev_nodes.specs.Trees.{is_dir_kind}
 use Rattle.rev_nodes.proofs.Below.{equal_itself}
 use Rattle.rev_nodes.proofs.Forming.{tied}
 use Rattle.rev_nodes.specs.Subtrees.{path_below}
 use Rattle.node_table.specs.Ways.{Name, are_names, is_front}
-use Rattle.node_table.proofs.Ways.{path_at-more, path_at-append, names-append}
-use Rattle.node_table.proofs.Fronts.{under-front, front-more, front-append, IsMore}
-use Rattle.tree_edits.specs.Edits.{Held, Touched, EditedTree, touched_at, child_of, or_touched, held_from, held_root, held_node, shown}
+use Rattle.node_table.proofs.Ways.{path_at-more, path_at-append}
+use Rattle.tree_edits.specs.Edits.{Held, Touched, touched_at, child_of, or_touched, held_from}
 use Rattle.tree_edits.specs.Hanging.{marked_held, child_held, with_edit, marked_at, is_below, cleared, hung_in}
 use Rattle.tree_edits.proofs.Lists.{in_order, is_same, touched-with, order-with, order-cleared, same_lists}
-use Rattle.tree_edits.proofs.Texts.{names_more, longer-join, front_is_path}
+use Rattle.tree_edits.proofs.Texts.{names_more, front_is_path}
 use Rattle.tree_edits.proofs.Views.{stepped, longer_at}
 use Rattle.tree_edits.proofs.Clearing.{touched-cleared, still_there, longer_below}
 

@@ -1,24 +1,23 @@
 -- A copy: what the table has elsewhere is put at a path where nothing stands, with all below it.
-use Rattle.std.proofs.Common.{Result, Ok, Err, ◌≡◌, ℕ, ◌+◌, ◌-◌, ◌<◌, ◌≤◌, Bool, true, false, List, [], ◌∷◌, ◌++◌, Option, None, Some, length, refl, sym, ap, subst, ◌∙◌, arith, append-nil}
+use Rattle.std.proofs.Common.{Result, Ok, Err, ◌≡◌, ℕ, ◌-◌, ◌<◌, ◌≤◌, Bool, true, false, List, [], ◌∷◌, ◌++◌, Option, None, Some, length, refl, sym, ap, subst, ◌∙◌, arith, append-nil}
 use Rattle.std.specs.Prelude.{is_some, if◌then◌else◌, MatchBool}
 use Rattle.std.specs.Option.{option_map, option_map_or}
 use Rattle.std.specs.Str.{bytes_eq}
 use Rattle.std.proofs.lemmas.Bool.{and_parts, and_from}
 use Rattle.dsv_base.specs.Paths.{is_path, is_component, root_text, parent_text, join_text}
 use Rattle.rev_nodes.specs.declared.cell.Cell.{Cell}
-use Rattle.rev_nodes.specs.declared.kind.Kind.{Kind}
 use Rattle.rev_nodes.specs.declared.line.Line.{Line}
 use Rattle.rev_nodes.specs.declared.change.Change.TheVariants as changes
 use Rattle.rev_nodes.specs.declared.unfit.Unfit.{Unfit}
 use Rattle.rev_nodes.specs.declared.unfit.Unfit.TheVariants as whys
-use Rattle.rev_nodes.specs.Trees.{TreeNode, Tree, at, is_dir, is_dir_kind, tree_at}
+use Rattle.rev_nodes.specs.Trees.{TreeNode, Tree, at, is_dir, tree_at}
 use Rattle.rev_nodes.specs.Changes.{has_parent, unfit_new, unfit_copy, or_too_long, copied_node, copied, are_paths, unfit, apply, marked, all_placed}
 use Rattle.rev_nodes.specs.Formed.{IsFormed}
 use Rattle.rev_nodes.specs.Fitting.{in_order, is_want}
 use Rattle.rev_nodes.proofs.Forming.{formed_change}
 use Rattle.rev_nodes.specs.Subtrees.{path_below}
 use Rattle.node_table.specs.Ways.{Name, are_names, names_in}
-use Rattle.node_table.specs.Tables.{cell_at, child_in, reach, Spot, spot_in, below_line, walk, spot_node, seen, IsSoundTable}
+use Rattle.node_table.specs.Tables.{cell_at, child_in, reach, spot_in, below_line, walk, spot_node, seen, IsSoundTable}
 use Rattle.node_table.specs.Rebuilt.{stamped, root_spot}
 use Rattle.node_table.specs.Shown.{IsShown, ShowsAll}
 use Rattle.node_table.specs.Limits.{AllFit, HasLong}

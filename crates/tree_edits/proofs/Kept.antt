@@ -1,8 +1,7 @@
 -- What all edits keep when one place is put over others.
-use Rattle.std.proofs.Common.{◌≡◌, ℕ, zero, suc, ◌+◌, ◌<◌, ◌≤◌, Bool, true, false, cond, List, [], ◌∷◌, ◌++◌, Option, None, Some, length, refl, sym, ap, subst, ◌∙◌, arith}
+use Rattle.std.proofs.Common.{◌≡◌, ℕ, ◌<◌, ◌≤◌, Bool, true, false, cond, List, [], ◌∷◌, ◌++◌, Option, None, Some, length, refl, sym, ap, subst, ◌∙◌, arith}
 use Rattle.std.specs.Prelude.{is_some, nat_le, if◌then◌else◌}
 use Rattle.std.specs.Option.{option_map, option_and_then}
-use Rattle.std.specs.Str.{bytes_eq}
 use Rattle.std.proofs.lemmas.Bool.{and_parts, leb-true}
 use Rattle.dsv_base.specs.Paths.{is_path, is_component, root_text, parent_text, name_of, join_text}
 use Rattle.dsv_base.proofs.Joins.{join_parent, name_is_component}
@@ -14,7 +13,7 @@ use Rattle.rev_nodes.proofs.Forming.{tied}
 use Rattle.rev_nodes.specs.Subtrees.{path_below}
 use Rattle.node_table.specs.Ways.{Name, are_names}
 use Rattle.node_table.specs.Tables.{cell_at, child_in, below_line, IsSoundTable}
-use Rattle.node_table.proofs.Ways.{path_at-more, path_at-append, names-append}
+use Rattle.node_table.proofs.Ways.{path_at-more, path_at-append}
 use Rattle.tree_edits.specs.Edits.{Held, Touched, touched_at, held_in, child_of, or_touched, held_from}
 use Rattle.tree_edits.specs.AreEdits.{IsHeld, IsInDir, IsPlaced, AreTouched}
 use Rattle.tree_edits.specs.Hanging.{marked_held, child_held, with_edit, marked_at, hung_in}

@@ -1,5 +1,5 @@
 -- What a change that was done, or wasn't, says of the edits.
-use Rattle.std.proofs.Common.{Result, Ok, Err, ◌≡◌, ℕ, ◌+◌, ◌≤◌, Bool, true, false, List, [], Option, None, Some, length, refl, sym, ap, subst, ◌∙◌, arith}
+use Rattle.std.proofs.Common.{Result, Ok, Err, ◌≡◌, ℕ, ◌+◌, ◌≤◌, Bool, true, false, List, [], Option, None, Some, length, sym, ap, subst, arith}
 use Rattle.std.specs.Prelude.{MatchBool, OnErr, is_some, if◌then◌else◌}
 use Rattle.rev_nodes.specs.declared.cell.Cell.{Cell}
 use Rattle.rev_nodes.specs.declared.change.Change.{Change}

@@ -1,21 +1,20 @@
 -- A way stands where a directory stands at its end's parent.
-use Rattle.std.proofs.Common.{◌≡◌, ℕ, Bool, true, false, List, [], ◌∷◌, ◌++◌, Option, None, Some, refl, sym, ap, subst, ◌∙◌, append_assoc, append-nil}
-use Rattle.std.specs.Prelude.{is_some, if◌then◌else◌}
+use Rattle.std.proofs.Common.{◌≡◌, ℕ, Bool, true, false, List, [], ◌∷◌, ◌++◌, Option, None, Some, refl, sym, ap, ◌∙◌, append_assoc, append-nil}
+use Rattle.std.specs.Prelude.{if◌then◌else◌}
 use Rattle.std.specs.Option.{option_map, option_map_or}
 use Rattle.std.proofs.lemmas.Bool.{and_parts, and_from}
-use Rattle.dsv_base.specs.Paths.{is_path, is_component, root_text, parent_text, join_text}
+use Rattle.dsv_base.specs.Paths.{is_component, root_text, parent_text, join_text}
 use Rattle.rev_nodes.specs.declared.cell.Cell.{Cell}
-use Rattle.rev_nodes.specs.Trees.{TreeNode, Tree, at, is_dir, is_dir_kind}
+use Rattle.rev_nodes.specs.Trees.{Tree, at, is_dir, is_dir_kind}
 use Rattle.rev_nodes.specs.Changes.{has_parent}
-use Rattle.rev_nodes.specs.Formed.{IsFormed}
 use Rattle.rev_nodes.proofs.Forming.{some_dir}
 use Rattle.rev_nodes.specs.Subtrees.{path_below}
 use Rattle.node_table.specs.Ways.{Name, are_names}
-use Rattle.node_table.proofs.Ways.{path_at-more, names-append}
+use Rattle.node_table.proofs.Ways.{path_at-more}
 use Rattle.node_table.specs.Tables.{IsSoundTable}
-use Rattle.tree_edits.specs.Edits.{Held, Touched, EditedTree, child_of, held_from, held_root, held_node, shown, AreShown}
-use Rattle.tree_edits.specs.Hanging.{marked_held, child_held, marked_at, hung_in, hung_at}
-use Rattle.tree_edits.proofs.Texts.{HasEnd, ends, parts_of, names_more, parent_at}
+use Rattle.tree_edits.specs.Edits.{Held, Touched, EditedTree, held_from, held_root, held_node, AreShown}
+use Rattle.tree_edits.specs.Hanging.{child_held, marked_at, hung_in, hung_at}
+use Rattle.tree_edits.proofs.Texts.{ends, parts_of, parent_at}
 use Rattle.tree_edits.proofs.Views.{stepped}
 use Rattle.tree_edits.proofs.Kept.{unmarked_held}
 

@@ -1,5 +1,5 @@
 -- Which paths a copy makes, by the ways below what is copied.
-use Rattle.std.proofs.Common.{◌≡◌, ℕ, zero, suc, ◌+◌, ◌-◌, ◌<◌, ◌≤◌, Bool, true, false, cond, ◌&&◌, ◌||◌, List, [], ◌∷◌, ◌++◌, Option, None, Some, length, nat_eq, nat_le, refl, sym, ap, subst, ◌∙◌, arith, length-append}
+use Rattle.std.proofs.Common.{◌≡◌, ℕ, suc, ◌+◌, ◌-◌, ◌≤◌, Bool, true, false, cond, List, [], ◌∷◌, ◌++◌, Option, None, Some, length, nat_eq, nat_le, refl, sym, ap, subst, ◌∙◌, arith, length-append}
 use Rattle.std.specs.Prelude.{is_some, if◌then◌else◌}
 use Rattle.std.specs.Option.{option_map}
 use Rattle.std.specs.List.{list_all}
@@ -8,7 +8,7 @@ use Rattle.std.specs.Ordering.{nat_cmp, eq_by_cmp}
 use Rattle.std.specs.Cmp.Lexicographic.{slice_cmp}
 use Rattle.std.specs.FinMap.Entries.{below_all}
 use Rattle.std.proofs.lemmas.Bool.{and_parts, and_from, and_left, and_right, le-leb, leb-true, or_right, false_from_ne_true}
-use Rattle.dsv_base.specs.Paths.{is_path, is_slash, is_component, is_below_root, components, is_under, root_text, front_of}
+use Rattle.dsv_base.specs.Paths.{is_path, is_component, is_under, root_text}
 use Rattle.rev_nodes.specs.Trees.{TreeNode, Tree, at}
 use Rattle.rev_nodes.specs.Changes.{moved, copied_node, copied, are_paths}
 use Rattle.rev_nodes.specs.Formed.{IsFormed}
@@ -17,11 +17,11 @@ use Rattle.rev_nodes.proofs.Forming.{later, tied, tied_self}
 use Rattle.rev_nodes.specs.declared.cell.Cell.{Cell}
 use Rattle.rev_nodes.specs.Subtrees.{path_below}
 use Rattle.node_table.specs.Ways.{Name, are_names, names_in}
-use Rattle.node_table.specs.Tables.{cell_at, child_in, reach, Spot, walk, spot_node, seen, IsSoundTable}
+use Rattle.node_table.specs.Tables.{child_in, reach, Spot, walk, spot_node, seen, IsSoundTable}
 use Rattle.node_table.specs.Rebuilt.{root_spot}
 use Rattle.node_table.specs.Shown.{ShowsAll}
 use Rattle.node_table.specs.Limits.{fits, AllFit, HasLong}
-use Rattle.node_table.proofs.Ways.{path_at-append, names-append, way_under, under-names, HasWay}
+use Rattle.node_table.proofs.Ways.{path_at-append, names-append, way_under, under-names}
 use Rattle.node_table.proofs.PathNames.{names_of_path}
 use Rattle.node_table.proofs.Fronts.{joined, path-joined, joined-components, names-back}
 use Rattle.node_table.proofs.Growing.{reach_none, walk-reach}

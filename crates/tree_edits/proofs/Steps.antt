@@ -1,11 +1,9 @@
 -- Each change of one place does what it is to do.
-use Rattle.std.proofs.Common.{Result, Ok, Err, ◌≡◌, ℕ, ◌+◌, ◌<◌, ◌≤◌, Bool, true, false, not, List, [], ◌∷◌, ◌++◌, Option, None, Some, length, refl, sym, ap, subst, ◌∙◌, arith}
+use Rattle.std.proofs.Common.{Result, Ok, Err, ◌≡◌, ℕ, Bool, true, false, not, List, [], ◌∷◌, ◌++◌, Option, None, Some, refl, sym, ap, subst, ◌∙◌, arith}
 use Rattle.std.specs.Prelude.{is_some, if◌then◌else◌, MatchBool}
 use Rattle.std.specs.Option.{option_map, option_map_or}
 use Rattle.dsv_base.specs.Paths.{is_path, root_text, parent_text}
-use Rattle.dsv_base.specs.declared.prop.Prop.{Prop}
 use Rattle.rev_nodes.specs.declared.cell.Cell.{Cell}
-use Rattle.rev_nodes.specs.declared.kind.Kind.{Kind}
 use Rattle.rev_nodes.specs.declared.kind.Kind.TheVariants.{File, Dir}
 use Rattle.rev_nodes.specs.declared.change.Change.{Change}
 use Rattle.rev_nodes.specs.declared.change.Change.TheVariants as changes
@@ -17,7 +15,7 @@ use Rattle.rev_nodes.specs.Changes as flat
 use Rattle.rev_nodes.specs.ChangedPaths.{path_of}
 use Rattle.rev_nodes.specs.Formed.{IsFormed}
 use Rattle.rev_nodes.specs.Fitting.{is_want}
-use Rattle.rev_nodes.proofs.Forming.{formed_change, some_dir}
+use Rattle.rev_nodes.proofs.Forming.{formed_change}
 use Rattle.rev_nodes.specs.Subtrees.{path_below}
 use Rattle.node_table.specs.Ways.{Name, are_names, names_in}
 use Rattle.node_table.specs.Tables.{IsSoundTable}
@@ -29,8 +27,8 @@ use Rattle.node_table.proofs.Marking.{edited-found}
 use Rattle.tree_edits.specs.Edits.{Held, Touched, EditedTree, held, held_node, shown, AreShown}
 use Rattle.tree_edits.specs.AreEdits.{IsHeld, AreEdits}
 use Rattle.tree_edits.specs.Hanging.{held_with_text, held_with_props, hung_at, Hangs}
-use Rattle.tree_edits.specs.Applied.{IsChangeDone, Does}
-use Rattle.tree_edits.proofs.Texts.{HasEnd, ends, parts_of, parent_at}
+use Rattle.tree_edits.specs.Applied.{Does}
+use Rattle.tree_edits.proofs.Texts.{ends, parts_of, parent_at}
 use Rattle.tree_edits.proofs.Parents.{has_hung, not_hung}
 use Rattle.tree_edits.proofs.Doing.{few_done, found_is, are_over, shows_over, are_fresh, shows_fresh}
 

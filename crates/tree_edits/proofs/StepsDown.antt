@@ -1,6 +1,6 @@
 -- One step down a way, and the step back.
-use Rattle.std.proofs.Common.{Result, Ok, Err, ◌≡◌, ℕ, ◌+◌, ◌<◌, Bool, true, false, cond, List, [], ◌∷◌, Option, None, Some, length, refl, sym, ap, subst, ◌∙◌}
-use Rattle.std.specs.Prelude.{is_some, if◌then◌else◌, MatchBool}
+use Rattle.std.proofs.Common.{◌≡◌, ℕ, Bool, true, false, cond, List, ◌∷◌, Option, None, Some, refl, sym, ap, subst, ◌∙◌}
+use Rattle.std.specs.Prelude.{if◌then◌else◌, MatchBool}
 use Rattle.std.proofs.lemmas.Bool.{and_parts}
 use Rattle.dsv_base.specs.Paths.{is_component, components, join_text}
 use Rattle.rev_nodes.specs.declared.cell.Cell.{Cell}
@@ -8,17 +8,23 @@ use Rattle.rev_nodes.specs.declared.unfit.Unfit.{Unfit}
 use Rattle.rev_nodes.specs.declared.unfit.Unfit.TheVariants.{NoParent}
 use Rattle.rev_nodes.specs.Fitting.{is_want}
 use Rattle.rev_nodes.specs.Trees.{is_dir_kind}
-use Rattle.rev_nodes.proofs.Forming.{tied}
 use Rattle.node_table.specs.Ways.{Name, are_names}
 use Rattle.node_table.proofs.PathNames.{IsSplit, split_some}
-use Rattle.tree_edits.specs.Edits.{Held, Touched, touched_at, child_of, or_touched, held_from}
-use Rattle.tree_edits.specs.Rests.{IsRest}
-use Rattle.tree_edits.specs.Reading.{IsUnder, HasUnder, CanRead, IsLastName, IsNextName}
-use Rattle.tree_edits.specs.Hanging.{marked_held, child_held, with_edit, without_edit, marked_at, hung_in, hung_below, Hangs, stands_dir, IsMarked, Touches, Untouches}
+use Rattle.tree_edits.specs.Edits.{Held, Touched, EditedTree, touched_at, child_of, or_touched, held_from}
+use Rattle.tree_edits.specs.AreEdits.{AreEdits}
+use Rattle.tree_edits.specs.Reading.{IsUnder, HasUnder, CanRead, CanReadEdits, IsNextName}
+use Rattle.tree_edits.specs.Hanging.{marked_held, child_held, with_edit, without_edit, marked_at, hung_in, hung_below, stands_dir, IsMarked, Untouches}
 use Rattle.tree_edits.proofs.Lists.{in_order, is_same, touched-here, touched-with, order-with, put_back, taken_back}
 use Rattle.tree_edits.proofs.Views.{none_from}
 
 -- ---- reading
+
+-- all edits can be read
+pub can_read : (r : ℕ) (cells : List Cell) (edits : EditedTree) → AreEdits r cells edits → CanReadEdits cells edits
+can_read r cells edits are = record {
+  root = are.within;
+  touched = record { sound = are.sound; within = λ path here there. (are.touched.held path here there).within };
+}
 
 -- nothing stands where nothing is found at the first name
 pub none_below : (cells : List Cell) (touched : Touched) (text path rest name next after : List ℕ) (above : Held) → IsNextName text path rest name next after → None ≡ or_touched (touched_at touched next) (child_of cells name above) → None ≡ held_from cells touched path (Some above) (components rest)

@@ -1,5 +1,5 @@
 -- Texts of paths on ways from the root down.
-use Rattle.std.proofs.Common.{◌≡◌, ℕ, zero, suc, ◌+◌, ◌-◌, ◌<◌, ◌≤◌, Bool, true, false, cond, List, [], ◌∷◌, ◌++◌, Option, None, Some, length, take, drop, nat_eq, refl, sym, ap, subst, ◌∙◌, arith, append_assoc, append-nil, length-append}
+use Rattle.std.proofs.Common.{◌≡◌, ℕ, ◌-◌, ◌<◌, ◌≤◌, Bool, true, false, List, [], ◌∷◌, ◌++◌, None, Some, length, take, nat_eq, refl, sym, ap, subst, ◌∙◌, arith, append_assoc, length-append}
 use Rattle.std.specs.Prelude.{if◌then◌else◌}
 use Rattle.std.specs.Str.{bytes_eq}
 use Rattle.std.proofs.lemmas.Bool.{and_parts, and_from}
@@ -8,12 +8,12 @@ use Rattle.dsv_base.proofs.Joins.{component_slash, component_some, before_last}
 use Rattle.rev_nodes.proofs.Below.{same_from, differ}
 use Rattle.rev_nodes.specs.Subtrees.{path_below}
 use Rattle.node_table.specs.Ways.{Name, are_names, names_in}
-use Rattle.node_table.proofs.Ways.{path_at-more, path_at-append, names-append, join-front, some_text, not_root, front-join}
-use Rattle.node_table.proofs.Fronts.{one-way, joined, path-joined, names-back}
+use Rattle.node_table.proofs.Ways.{path_at-more, names-append, join-front, some_text, not_root, front-join}
+use Rattle.node_table.proofs.Fronts.{joined, path-joined, names-back}
 use Rattle.node_table.proofs.PathNames.{names_of_path, split_some, joined-split}
 use Rattle.tree_edits.specs.Rests.{IsRest}
 use Rattle.tree_edits.proofs.Lists.{is_same, not_same}
-use Rattle.tree_edits.proofs.Short.{size, size-append, path-size, is_path_from}
+use Rattle.tree_edits.proofs.Short.{size-append, path-size, is_path_from}
 
 -- ---- names
 

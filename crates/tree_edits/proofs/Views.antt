@@ -1,10 +1,10 @@
 -- What edits show after one place was put over others.
-use Rattle.std.proofs.Common.{◌≡◌, ℕ, zero, suc, ◌+◌, ◌<◌, ◌≤◌, Bool, true, false, cond, ◌&&◌, List, [], ◌∷◌, ◌++◌, Option, None, Some, length, drop, refl, sym, ap, subst, ◌∙◌, arith, append_assoc, append-nil, length-append}
+use Rattle.std.proofs.Common.{◌≡◌, ℕ, ◌<◌, ◌≤◌, Bool, true, false, cond, List, [], ◌∷◌, ◌++◌, Option, None, Some, length, drop, refl, sym, ap, subst, ◌∙◌, arith, append_assoc, append-nil, length-append}
 use Rattle.std.specs.Prelude.{is_some, if◌then◌else◌}
-use Rattle.std.specs.Option.{option_map, option_and_then}
+use Rattle.std.specs.Option.{option_map}
 use Rattle.std.specs.Str.{bytes_eq}
 use Rattle.std.proofs.lemmas.Bool.{and_parts, and_from, false_from_ne_true}
-use Rattle.dsv_base.specs.Paths.{is_component, is_under, root_text, join_text}
+use Rattle.dsv_base.specs.Paths.{is_component, root_text, join_text}
 use Rattle.rev_nodes.specs.declared.cell.Cell.{Cell}
 use Rattle.rev_nodes.specs.Trees.{TreeNode, Tree, at, is_dir_kind}
 use Rattle.rev_nodes.specs.Changes.{marked, placed}
@@ -17,7 +17,7 @@ use Rattle.node_table.specs.Rebuilt.{stamped}
 use Rattle.node_table.proofs.Ways.{path_at-more, path_at-append, names-append}
 use Rattle.node_table.proofs.Fronts.{one-way, under-front, front-append}
 use Rattle.node_table.proofs.Marking.{is_at, at-marked}
-use Rattle.tree_edits.specs.Edits.{Held, Touched, EditedTree, touched_at, held_in, child_of, or_touched, held_from, held_root, held, held_node, shown}
+use Rattle.tree_edits.specs.Edits.{Held, Touched, EditedTree, touched_at, held_in, child_of, or_touched, held_from, held_root, held_node, shown}
 use Rattle.tree_edits.specs.Hanging.{marked_held, child_held, with_edit, marked_at, hung_in, hung_at}
 use Rattle.tree_edits.proofs.Lists.{is_same, not_same, touched-here, touched-other}
 use Rattle.tree_edits.proofs.Texts.{names_more, longer-join, shorter_apart, longer_apart}

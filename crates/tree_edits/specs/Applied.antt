@@ -1,5 +1,5 @@
 -- What a change does to edits.
-use Rattle.std.specs.Prelude.{ℕ, ◌≡◌, ◌≤◌, ◌+◌, true, List, Option, None, Some, Result, Ok, Err, MatchBool, length}
+use Rattle.std.specs.Prelude.{ℕ, ◌≡◌, ◌≤◌, ◌+◌, List, Option, None, Some, Result, Ok, Err, MatchBool, length}
 use Rattle.rev_nodes.specs.declared.cell.Cell.{Cell}
 use Rattle.rev_nodes.specs.declared.change.Change.{Change}
 use Rattle.rev_nodes.specs.declared.unfit.Unfit.{Unfit}

@@ -1,9 +1,9 @@
 -- What is true of all edits that changes lead to.
-use Rattle.std.specs.Prelude.{ℕ, ◌≡◌, ◌<◌, ◌≤◌, true, false, Bool, List, [], Option, None, Some, length, is_some, IsTrue, IfSome}
+use Rattle.std.specs.Prelude.{ℕ, ◌≡◌, ◌<◌, ◌≤◌, true, false, List, [], Option, None, Some, length, is_some}
 use Rattle.std.specs.FinMap.{is_sorted}
 use Rattle.std.specs.Ordering.{nat_cmp}
 use Rattle.std.specs.Cmp.Lexicographic.{slice_cmp}
-use Rattle.dsv_base.specs.Paths.{is_path, root_text, parent_text}
+use Rattle.dsv_base.specs.Paths.{is_path, parent_text}
 use Rattle.rev_nodes.specs.declared.cell.Cell.{Cell}
 use Rattle.rev_nodes.specs.Trees.{is_dir_kind}
 use Rattle.node_table.specs.Tables.{cell_at, IsSoundTable}

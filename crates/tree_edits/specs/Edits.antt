@@ -5,7 +5,6 @@ use Rattle.std.specs.FinMap.{find}
 use Rattle.std.specs.Ordering.{nat_cmp}
 use Rattle.std.specs.Cmp.Lexicographic.{slice_cmp}
 use Rattle.dsv_base.specs.Paths.{root_text, join_text}
-use Rattle.rev_nodes.specs.declared.node.Node.{Node}
 use Rattle.rev_nodes.specs.declared.line.Line.{Line}
 use Rattle.rev_nodes.specs.Trees.{TreeNode, Tree, at}
 use Rattle.rev_nodes.specs.Formed.{IsFormed}

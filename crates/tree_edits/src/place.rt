@@ -82,7 +82,11 @@ impl<'a> Place<'a> {
     }
 
     /// The same with other properties.
-    pub(crate) fn into_held_with_props(self, props: Shared<Prop>, rev: Rev) -> Result<Held, NoMemory>
+    pub(crate) fn into_held_with_props(
+        self,
+        props: Shared<Prop>,
+        rev: Rev,
+    ) -> Result<Held, NoMemory>
         ensures { IfOk result (λ held. held ≡ held_with_props rev props self.entry) }
     {
         let node = Node {

@@ -1,4 +1,4 @@
-use Rattle.std.proofs.Common.{◌≡◌, ◌≤◌, ℕ, List, length, sym, subst, arith}
+use Rattle.std.proofs.Common.{◌≤◌, ℕ, List, length, sym, subst, arith}
 use Rattle.node_table.specs.Ways.{names_in}
 use Rattle.node_table.proofs.PathNames.{names_of_path}
 use Rattle.tree_edits.proofs.copy.is_short.Goals as goal

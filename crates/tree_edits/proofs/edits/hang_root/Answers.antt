@@ -1,11 +1,11 @@
-use Rattle.std.proofs.Common.{◌≡◌, ◌<◌, false, ℕ, List, Option, Some, None, length, sym, ap, subst, ◌∙◌}
+use Rattle.std.proofs.Common.{◌≡◌, ◌<◌, false, ℕ, List, Some, length, sym, ap, subst, ◌∙◌}
 use Rattle.dsv_base.specs.Paths.{root_text}
 use Rattle.std.specs.Prelude.{MatchBool}
 use Rattle.rev_nodes.specs.declared.unfit.Unfit.TheVariants.{NoParent}
 use Rattle.rev_nodes.specs.Fitting.{is_want}
 use Rattle.rev_nodes.specs.declared.cell.Cell.{Cell}
 use Rattle.node_table.specs.Tables.{cell_at}
-use Rattle.tree_edits.specs.Edits.{Held, Touched, touched_at, or_touched, held_in}
+use Rattle.tree_edits.specs.Edits.{Held, touched_at, or_touched, held_in}
 use Rattle.tree_edits.specs.Reading.{HasUnder}
 use Rattle.tree_edits.specs.Hanging.{marked_held, stands_dir, IsMarked}
 use Rattle.tree_edits.proofs.Lists.{in_order}

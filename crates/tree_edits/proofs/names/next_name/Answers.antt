@@ -1,4 +1,4 @@
-use Rattle.std.proofs.Common.{◌≡◌, ◌-◌, length, sym, refl, subst}
+use Rattle.std.proofs.Common.{◌-◌, length, sym, refl, subst}
 use Rattle.tree_edits.specs.Rests.{IsRest}
 use Rattle.tree_edits.proofs.Texts.{last_path, next_path, next_rest}
 use Rattle.tree_edits.proofs.names.next_name.Goals as goal

@@ -1,4 +1,4 @@
-use Rattle.std.proofs.Common.{◌≡◌, ℕ, List, Option, Some, None, sym, ap, subst, ◌∙◌}
+use Rattle.std.proofs.Common.{sym, subst}
 use Rattle.tree_edits.specs.Applied.{Does}
 use Rattle.tree_edits.proofs.Outcomes.{no_copy}
 use Rattle.tree_edits.proofs.edits.Edits.change.Goals as goal

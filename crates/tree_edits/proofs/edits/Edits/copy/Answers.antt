@@ -1,4 +1,4 @@
-use Rattle.std.proofs.Common.{◌≡◌, sym, ◌∙◌}
+use Rattle.std.proofs.Common.{sym, ◌∙◌}
 use Rattle.node_table.specs.Ways.{names_in}
 use Rattle.node_table.proofs.Growing.{reach_within}
 use Rattle.tree_edits.proofs.Grafts.{copy_absent}

@@ -1,11 +1,15 @@
-use Rattle.std.proofs.Common.{◌≡◌, sym, ap, ◌∙◌}
+use Rattle.std.proofs.Common.{sym, ap, ◌∙◌}
 use Rattle.rev_nodes.specs.declared.cell.Cell.{Cell}
 use Rattle.node_table.specs.Ways.{names_in}
 use Rattle.tree_edits.specs.Edits.{held}
 use Rattle.tree_edits.specs.Hanging.{copied_held}
+use Rattle.tree_edits.proofs.StepsDown.{can_read}
 use Rattle.tree_edits.proofs.Deleting.{some_of, none_of}
 use Rattle.tree_edits.proofs.Grafts.{copy_there, copy_no_parent, copy_too_long, copy_does}
 use Rattle.tree_edits.proofs.edits.Edits.copy_of.Goals as goal
+
+pub hang-requires-clause-can : goal.hang-requires-clause-can
+hang-requires-clause-can c = can_read c.args.rev c.args.cells.now c.args.self.now c.requires.are
 
 pub returns-then-branch : goal.returns-then-branch
 returns-then-branch c =

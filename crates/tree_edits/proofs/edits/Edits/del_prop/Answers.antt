@@ -1,12 +1,10 @@
-use Rattle.std.proofs.Common.{◌≡◌, [], ℕ, List, Option, Some, None, sym, ap, ◌∙◌}
+use Rattle.std.proofs.Common.{List, sym, ap, ◌∙◌}
 use Rattle.dsv_base.specs.declared.prop.Prop.{Prop}
 use Rattle.rev_nodes.specs.declared.change.Change.TheVariants as changes
-use Rattle.rev_nodes.specs.declared.kind.Kind.TheVariants.{File, Dir}
 use Rattle.rev_nodes.specs.declared.node.Node.{Node}
-use Rattle.rev_nodes.specs.Changes.{with_prop, without_prop}
-use Rattle.tree_edits.specs.Edits.{Held}
-use Rattle.tree_edits.specs.Hanging.{held_with_text, held_with_props}
-use Rattle.tree_edits.proofs.Steps.{over_does, add_does, text_over, put_exists, file_added, dir_added, dir_exists, prop_set, prop_deleted, none_to_set, none_to_delete}
+use Rattle.rev_nodes.specs.Changes.{without_prop}
+use Rattle.tree_edits.specs.Hanging.{held_with_props}
+use Rattle.tree_edits.proofs.Steps.{over_does, prop_deleted, none_to_delete}
 use Rattle.tree_edits.proofs.edits.Edits.del_prop.Goals as goal
 
 pub returns-in-None : goal.returns-in-None

@@ -1,9 +1,8 @@
-use Rattle.std.proofs.Common.{◌≡◌, ℕ, List, Option, Some, None, true, false, sym, ap, ◌∙◌}
+use Rattle.std.proofs.Common.{◌≡◌, true, false, sym, ◌∙◌}
 use Rattle.std.specs.Str.{bytes_eq}
 use Rattle.dsv_base.specs.Paths.{root_text}
 use Rattle.node_table.specs.Ways.{names_in}
 use Rattle.tree_edits.specs.Edits.{held}
-use Rattle.tree_edits.specs.Hanging.{cleared}
 use Rattle.tree_edits.proofs.Deleting.{gone_done, gone_fails, none_to_take, root_to_take, some_of, none_of}
 use Rattle.tree_edits.proofs.edits.Edits.delete.Goals as goal
 

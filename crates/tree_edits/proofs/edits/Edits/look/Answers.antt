@@ -1,5 +1,5 @@
-use Rattle.std.proofs.Common.{◌≡◌, ap, sym, ◌∙◌}
-use Rattle.dsv_base.specs.Paths.{is_path, components}
+use Rattle.std.proofs.Common.{ap, sym, ◌∙◌}
+use Rattle.dsv_base.specs.Paths.{is_path}
 use Rattle.node_table.specs.Ways.{are_names}
 use Rattle.node_table.proofs.PathNames.{names_of_path}
 use Rattle.tree_edits.proofs.Texts.{root_rest}

@@ -1,11 +1,8 @@
-use Rattle.std.proofs.Common.{◌≡◌, [], ℕ, List, Option, Some, None, sym, ap, ◌∙◌}
-use Rattle.dsv_base.specs.declared.prop.Prop.{Prop}
+use Rattle.std.proofs.Common.{[], ℕ, List, None, sym, ap, ◌∙◌}
 use Rattle.rev_nodes.specs.declared.change.Change.TheVariants as changes
-use Rattle.rev_nodes.specs.declared.kind.Kind.TheVariants.{File, Dir}
-use Rattle.rev_nodes.specs.Changes.{with_prop, without_prop}
+use Rattle.rev_nodes.specs.declared.kind.Kind.TheVariants.{Dir}
 use Rattle.tree_edits.specs.Edits.{Held}
-use Rattle.tree_edits.specs.Hanging.{held_with_text, held_with_props}
-use Rattle.tree_edits.proofs.Steps.{over_does, add_does, text_over, put_exists, file_added, dir_added, dir_exists, prop_set, prop_deleted, none_to_set, none_to_delete}
+use Rattle.tree_edits.proofs.Steps.{add_does, dir_added, dir_exists}
 use Rattle.tree_edits.proofs.edits.Edits.mkdir.Goals as goal
 
 pub returns-in-Some : goal.returns-in-Some

@@ -1,8 +1,6 @@
-use Rattle.std.proofs.Common.{◌≡◌, ◌<◌, ℕ, List, Option, Some, None, length, sym, ap, subst, ◌∙◌, arith}
-use Rattle.dsv_base.specs.Paths.{components}
-use Rattle.tree_edits.specs.Edits.{Held, Touched, touched_at}
+use Rattle.std.proofs.Common.{ap, ◌∙◌, arith}
 use Rattle.tree_edits.specs.Hanging.{marked_held}
-use Rattle.tree_edits.proofs.Lists.{in_order, touched-here}
+use Rattle.tree_edits.proofs.Lists.{in_order}
 use Rattle.tree_edits.proofs.StepsDown.{first_name_is, can_touched, marked_order, marked_can, touch_fails, went_on, came_back, here_now}
 use Rattle.tree_edits.proofs.store.Store.+hang_below.Goals as goal
 

@@ -1,4 +1,4 @@
-use Rattle.std.proofs.Common.{◌≡◌, Option, Some, None, ◌∙◌, sym}
+use Rattle.std.proofs.Common.{◌∙◌, sym}
 use Rattle.tree_edits.proofs.StepsDown.{none_below}
 use Rattle.tree_edits.proofs.store.Store.+look_below.Goals as goal
 

@@ -1,4 +1,3 @@
-use Rattle.std.proofs.Common.{◌∙◌}
 use Rattle.tree_edits.proofs.Lists.{added_is}
 use Rattle.tree_edits.proofs.store.Store.add.Goals as goal
 

@@ -1,4 +1,4 @@
-use Rattle.std.proofs.Common.{◌≡◌, rules, not}
+use Rattle.std.proofs.Common.{rules, not}
 use Rattle.std.proofs.lemmas.Map.Made.{filter_same_pairs}
 use Rattle.tree_edits.specs.Hanging.{is_below}
 use Rattle.tree_edits.proofs.Lists.{cleared_is}

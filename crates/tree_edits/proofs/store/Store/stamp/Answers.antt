@@ -1,7 +1,5 @@
-use Rattle.std.proofs.Common.{◌≡◌, ◌∙◌, sym, ap, List, Option, Some, None, ℕ, true, false}
-use Rattle.std.specs.Prelude.{is_some}
+use Rattle.std.proofs.Common.{◌∙◌, sym, ap, Some, None}
 use Rattle.std.specs.Option.{option_copied_mut}
-use Rattle.tree_edits.specs.Edits.{Held, touched_at}
 use Rattle.tree_edits.specs.Hanging.{marked_held}
 use Rattle.tree_edits.proofs.Lists.{got, stamp_is}
 use Rattle.tree_edits.proofs.store.Store.stamp.Goals.{in-Some+in-Some-slot, in-Some+in_default-slot, in_default}
