@@ -1,6 +1,7 @@
 pub mod Rising
 pub mod Merges
 pub mod Cuttings
+pub mod Raised
 pub mod Lists
 pub mod Scans
 pub mod Growths

@@ -1,4 +1,4 @@
-ghost use Rattle.std.specs.Prelude.{◌≡◌, IfSome, IsTrue, MatchResult};
+ghost use Rattle.std.specs.Prelude.{◌≡◌, ◌++◌, IfSome, IsTrue, MatchResult, option_to_list};
 ghost use Rattle.std.specs.Option.{option_copied};
 ghost use Rattle.std.specs.Ordering.{nat_cmp};
 ghost use Rattle.std.specs.Cmp.Lexicographic.{slice_cmp};
@@ -22,6 +22,7 @@ pub(crate) fn cut_at_name<'a>(entries: &'a [Entry], name: &[u8]) -> Cut<'a>
     ensures before { result.before.now ≡ entries_before name.now entries.now }
     ensures here { IfSome (option_copied result.here) (λ e. e.name ≡ name.now) }
     ensures behind { result.behind.now ≡ entries_behind name.now entries.now }
+    ensures whole { result.before.now ++ (option_to_list (option_copied result.here) ++ result.behind.now) ≡ entries.now }
 {
     match place_of(entries, name) {
         Ok(index) => Cut {

@@ -2,12 +2,11 @@ ghost use Rattle.std.specs.Prelude.{◌≡◌, ◌<◌, ◌++◌, ℕ, IfOk, IsT
 ghost use Rattle.std.specs.FinMap.{is_sorted};
 ghost use Rattle.std.specs.Ordering.{nat_cmp};
 ghost use Rattle.std.specs.Cmp.Lexicographic.{slice_cmp};
-ghost use Rattle.rev_nodes.specs.declared.cell.Cell.{Cell};
-ghost use Rattle.node_table.specs.Tables.{IsSoundTable, height_over};
+ghost use Rattle.rev_nodes.specs.declared.cell.Cell.{Cell as CellRecord};
+ghost use Rattle.node_table.specs.Tables.{IsSoundTable, entries_rise, height_over};
 ghost use Rattle.tree_settling.specs.Merged.{AreMerged};
 ghost use Rattle.tree_settling.specs.Settled.{entries_under};
 
-use crate::heights::height_among;
 use crate::made::Made;
 use crate::merging::merged;
 use dsv_base::NoMemory;
@@ -38,10 +37,11 @@ pub(crate) fn settled_inside(
     ensures merged { IfOk result (λ inside. AreMerged names.now (entries_under cells.now held.now) inside.entries) }
     ensures height { IfOk result (λ inside. inside.height ≡ height_over (cells.now ++ more.now) inside.entries) }
 {
+    let kept = kept_inside(cells, held)?;
     if names.is_empty() {
-        return kept_inside(cells, held);
+        return Ok(kept);
     }
-    changed_inside(alloc, cells, more, names, held)
+    merged(alloc, cells, more, &kept, names)
 }
 
 /// What the table has in a place, held together with it. Its height stays right behind more cells.
@@ -49,7 +49,9 @@ fn kept_inside(cells: &[Cell], held: &Held) -> Result<Inside, NoMemory>
     requires sound { IsSoundTable cells.now }
     requires within { (id : ℕ) → held.now.under ≡ Some id → id < length cells.now }
     ensures entries { IfOk result (λ inside. inside.entries ≡ entries_under cells.now held.now) }
-    ensures height { IfOk result (λ inside. (more : List Cell) → inside.height ≡ height_over (cells.now ++ more) inside.entries) }
+    ensures rise { IfOk result (λ inside. IsTrue (entries_rise inside.entries)) }
+    ensures height { IfOk result (λ inside.
+        (more : List CellRecord) → inside.height ≡ height_over (cells.now ++ more) inside.entries) }
 {
     match held.under {
         None => Ok(Inside {
@@ -64,35 +66,5 @@ fn kept_inside(cells: &[Cell], held: &Held) -> Result<Inside, NoMemory>
                 height: cell.height,
             })
         }
-    }
-}
-
-/// What the table has in a place, with what was made of some names.
-fn changed_inside(
-    alloc: Global,
-    cells: &[Cell],
-    more: &[Cell],
-    names: &[Made],
-    held: &Held,
-) -> Result<Inside, NoMemory>
-    requires sound { IsSoundTable cells.now }
-    requires within { (id : ℕ) → held.now.under ≡ Some id → id < length cells.now }
-    requires names { IsTrue (is_sorted (slice_cmp nat_cmp) names.now) }
-    ensures merged { IfOk result (λ inside. AreMerged names.now (entries_under cells.now held.now) inside.entries) }
-    ensures height { IfOk result (λ inside. inside.height ≡ height_over (cells.now ++ more.now) inside.entries) }
-{
-    let entries = merged(alloc, entries_under(cells, held), names)?;
-    let height = height_among(cells, more, entries.get());
-    Ok(Inside { entries, height })
-}
-
-/// The table's entries in what stands at a place.
-fn entries_under<'a>(cells: &'a [Cell], held: &Held) -> &'a [Entry]
-    requires { (id : ℕ) → held.now.under ≡ Some id → id < length cells.now }
-    ensures { result.now ≡ entries_under cells.now held.now }
-{
-    match held.under {
-        None => &[],
-        Some(id) => cell_of(cells, id).entries.get(),
     }
 }

@@ -8,6 +8,7 @@ mod inside;
 mod listing;
 mod made;
 mod merging;
+mod raising;
 mod settling;
 
 pub use settling::settle;

@@ -3,33 +3,45 @@ ghost use Rattle.std.specs.FinMap.{is_sorted};
 ghost use Rattle.std.specs.Option.{option_copied};
 ghost use Rattle.std.specs.Ordering.{nat_cmp};
 ghost use Rattle.std.specs.Cmp.Lexicographic.{slice_cmp};
-ghost use Rattle.node_table.specs.Tables.{entries_rise};
-ghost use Rattle.tree_settling.specs.Merged.{AreMerged, entries_before, entries_behind, entry_made};
+ghost use Rattle.node_table.specs.Tables.{entries_rise, height_over};
+ghost use Rattle.tree_settling.specs.Merged.{AreMerged, entry_made};
 
-use crate::cutting::cut_at_name;
+use crate::cutting::{Cut, cut_at_name};
+use crate::inside::Inside;
 use crate::made::Made;
+use crate::raising::{height_by, told_height};
 use dsv_base::NoMemory;
-use rev_nodes::{Entry, Shared};
+use rev_nodes::{Cell, Entry, Shared};
 use std::alloc::Global;
 
-/// The entries with what was made of some names. Both stand in byte order of the names. Each name
-/// that stays is held together with the old entry's.
+/// What stands in a place with what was made of some names. Both stand in byte order of the names.
+/// Each name that stays is held together with the old entry's.
 pub(crate) fn merged(
     alloc: Global,
-    entries: &[Entry],
+    cells: &[Cell],
+    more: &[Cell],
+    kept: &Inside,
     changes: &[Made],
-) -> Result<Shared<Entry>, NoMemory>
-    requires old { IsTrue (entries_rise entries.now) }
+) -> Result<Inside, NoMemory>
+    requires old { IsTrue (entries_rise kept.now.entries) }
+    requires height { kept.now.height ≡ height_over (cells.now ++ more.now) kept.now.entries }
     requires new { IsTrue (is_sorted (slice_cmp nat_cmp) changes.now) }
-    ensures { IfOk result (λ all. AreMerged changes.now entries.now all) }
+    ensures merged { IfOk result (λ all. AreMerged changes.now kept.now.entries all.entries) }
+    ensures height { IfOk result (λ all. all.height ≡ height_over (cells.now ++ more.now) all.entries) }
 {
-    let mut all = Vec::with_capacity(alloc, entries.len().saturating_add(changes.len()))?;
-    let mut rest = entries;
+    let mut rest = kept.entries.get();
+    let mut height = Some(kept.height);
+    let mut all = Vec::with_capacity(alloc, rest.len().saturating_add(changes.len()))?;
     'changes: for change in changes {
-        rest = merge_one(alloc, &mut all, rest, change)?;
+        let cut = cut_at_name(rest, change.at());
+        height = height_by(cells, more, height, cut.here, change);
+        merge_one(alloc, &mut all, &cut, change)?;
+        rest = cut.behind;
     }
     copy_all(&mut all, rest)?;
-    Shared::of(all)
+    let height = told_height(cells, more, height, all.as_slice());
+    let entries = Shared::of(all)?;
+    Ok(Inside { entries, height })
 }
 
 fn copy_entry(entry: &Entry) -> Result<Entry, NoMemory>
@@ -48,22 +60,14 @@ fn copy_all(all: &mut Vec<Entry>, entries: &[Entry]) -> Result<(), NoMemory>
     Ok(())
 }
 
-/// Adds the entries before a name, and what was made of it; gives those behind it.
-fn merge_one<'a>(
-    alloc: Global,
-    all: &mut Vec<Entry>,
-    entries: &'a [Entry],
-    change: &Made,
-) -> Result<&'a [Entry], NoMemory>
-    requires { IsTrue (entries_rise entries.now) }
-    ensures all { OnOk result (all.new.items ≡
-        (all.old.items ++ entries_before change.now.0 entries.now) ++ entry_made change.now.0 change.now.1) }
-    ensures rest { IfOk result (λ rest. rest.now ≡ entries_behind change.now.0 entries.now) }
+/// Adds the entries before a name, and what was made of it.
+fn merge_one(alloc: Global, all: &mut Vec<Entry>, cut: &Cut, change: &Made) -> Result<(), NoMemory>
+    requires { IfSome (option_copied cut.now.here) (λ e. e.name ≡ change.now.0) }
+    ensures { OnOk result (all.new.items ≡
+        (all.old.items ++ cut.now.before.now) ++ entry_made change.now.0 change.now.1) }
 {
-    let cut = cut_at_name(entries, change.at());
     copy_all(all, cut.before)?;
-    push_made(alloc, all, change, cut.here)?;
-    Ok(cut.behind)
+    push_made(alloc, all, change, cut.here)
 }
 
 /// Adds the entry of a name, where something was made of it. `here` is its old entry, if it had one.

@@ -1,12 +1,13 @@
 use Rattle.std.proofs.Common.{◌≡◌, ◌++◌, drop}
-use Rattle.std.specs.Prelude.{IsTrue}
-use Rattle.node_table.specs.Tables.{entries_rise}
+use Rattle.std.specs.Prelude.{IsTrue, IfSome}
+use Rattle.node_table.specs.Tables.{entries_rise, height_over}
 use Rattle.tree_settling.proofs.Merges.{zipped}
 use Rattle.tree_settling.proofs.merging.merged.Given as goal
 
--- what is merged so far, and what the rest comes to, is all
+-- what is merged so far, and what the rest comes to, is all; a height that is told is that of both
 abbrev pub invariant-changes : goal.invariant-changes
 invariant-changes l = record {
-  all : l.all.items ++ zipped (drop l.change-index l.changes) l.rest ≡ zipped l.changes l.entries;
+  all : l.all.items ++ zipped (drop l.change-index l.changes) l.rest ≡ zipped l.changes l.kept.entries;
   rise : IsTrue (entries_rise l.rest);
+  height : IfSome l.height (λ h. h ≡ height_over (l.cells ++ l.more) (l.all.items ++ l.rest));
 }
