@@ -1,5 +1,5 @@
 -- Drafts over the trees of a repository, which may grow while a draft lasts.
-use Rattle.std.specs.Prelude.{ℕ, ◌≡◌, ◌<◌, ◌||◌, nat_eq, List, ◌++◌, Option, None, Some, Result, Ok, length, if◌then◌else◌}
+use Rattle.std.specs.Prelude.{ℕ, ◌≡◌, ◌<◌, ◌||◌, nat_eq, List, ◌++◌, None, Some, Ok, length, if◌then◌else◌}
 use Rattle.rev_nodes.specs.declared.cell.Cell.{Cell}
 use Rattle.rev_nodes.specs.declared.change.Change.{Change}
 use Rattle.rev_nodes.specs.Trees.{TreeNode, Tree}

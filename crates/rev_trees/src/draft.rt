@@ -123,10 +123,7 @@ impl Draft {
         requires { IsGrown self.now.trees trees.now }
         ensures { result ≡ option_map (seen_at path.now self.now.changes) (at path.now (drafted trees.now self.now)) }
     {
-        match self.edits.glance(trees.cells(), path) {
-            None => None,
-            Some(glance) => Some(seen_glance(&glance)),
-        }
+        seen_of(self.edits.glance(trees.cells(), path))
     }
 }
 
@@ -165,6 +162,16 @@ fn change_edits(
 {
     let from = source_root(revisions, change);
     edits.apply(alloc, cells, from, change, coming())
+}
+
+/// What a draft shows where this stands, or nothing does.
+fn seen_of(glance: Option<Glance>) -> Option<Seen>
+    ensures { result ≡ option_map seen_glance glance }
+{
+    match glance {
+        None => None,
+        Some(glance) => Some(seen_glance(&glance)),
+    }
 }
 
 /// What a draft shows where this stands.

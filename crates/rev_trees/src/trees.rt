@@ -1,7 +1,7 @@
 ghost use Rattle.std.specs.Prelude.{◌≡◌, ◌+◌, ◌<◌, ◌≤◌, ℕ, IsTrue, IfOk, [], ◌∷◌, length};
 ghost use Rattle.std.specs.Option.{SomeIff};
 ghost use Rattle.dsv_base.specs.Paths.{is_path};
-ghost use Rattle.node_table.specs.Tables.{cell_at};
+ghost use Rattle.node_table.specs.Tables.{cell_at, IsSoundTable};
 ghost use Rattle.rev_nodes.specs.Pushes.{first_revision};
 ghost use Rattle.rev_nodes.specs.Forests.{id_at, line_at, revision_at, repository_of, IsId, IsNodeOf};
 ghost use Rattle.rev_nodes.specs.Entries.{AreEntriesOf, HasNoneInFile, IsSound};
@@ -177,7 +177,8 @@ impl Trees {
 
     /// All nodes, by number.
     pub(crate) fn cells(&self) -> &[Cell]
-        ensures { result.now ≡ self.now.nodes }
+        ensures cells { result.now ≡ self.now.nodes }
+        ensures sound { IsSoundTable self.now.nodes }
     {
         self.table.cells()
     }
