@@ -151,8 +151,8 @@ formed_more path node tree rise free has one formed = record {
 
 -- why a new node fits
 pub record IsFree (path : List ℕ) (tree : Tree) : Type 0 where
-  free : is_some (at path tree) ≡ false
-  has : has_parent path tree ≡ true
+  pub free : is_some (at path tree) ≡ false
+  pub has : has_parent path tree ≡ true
 
 pub free_from : (path : List ℕ) (tree : Tree) → unfit_new path tree ≡ None → IsFree path tree
 free_from path tree h = either (is_some (at path tree)) (has_parent path tree) refl refl h
@@ -219,21 +219,21 @@ later e es p found below here = either (eq_by_cmp (slice_cmp nat_cmp) p e.0) ref
 
 module _ (source : List ℕ) (rev : ℕ) (path : List ℕ) (r : ℕ) where
   -- a node of the source's tree is copied to this place
-  record IsCopied (from : Tree) (k : List ℕ) (now : Option TreeNode) : Type 0 where
-    origin : List ℕ
-    found : TreeNode
-    there : at origin from ≡ Some found
-    under : is_under origin source ≡ true
-    to : moved source path origin ≡ k
-    fits : is_path k ≡ true
-    is : now ≡ Some (copied_node rev r origin found)
+  pub record IsCopied (from : Tree) (k : List ℕ) (now : Option TreeNode) : Type 0 where
+    pub origin : List ℕ
+    pub found : TreeNode
+    pub there : at origin from ≡ Some found
+    pub under : is_under origin source ≡ true
+    pub to : moved source path origin ≡ k
+    pub fits : is_path k ≡ true
+    pub is : now ≡ Some (copied_node rev r origin found)
 
   -- nothing is copied to this place
-  record IsAsBefore (from tree : Tree) (k : List ℕ) (now : Option TreeNode) : Type 0 where
-    is : now ≡ at k tree
-    none : (p : List ℕ) → is_some (at p from) ≡ true → is_under p source ≡ true → moved source path p ≡ k → ⊥
+  pub record IsAsBefore (from tree : Tree) (k : List ℕ) (now : Option TreeNode) : Type 0 where
+    pub is : now ≡ at k tree
+    pub none : (p : List ℕ) → is_some (at p from) ≡ true → is_under p source ≡ true → moved source path p ≡ k → ⊥
 
-  abbrev IsEither : Tree → Tree → List ℕ → Option TreeNode → Type 0
+  abbrev pub IsEither : Tree → Tree → List ℕ → Option TreeNode → Type 0
   IsEither from tree k now = IsCopied from k now ⊎ IsAsBefore from tree k now
 
   abbrev there : List ℕ × TreeNode → List ℕ × TreeNode
@@ -277,7 +277,7 @@ module _ (source : List ℕ) (rev : ℕ) (path : List ℕ) (r : ℕ) where
             none_by p false s t some u to = b.none p some u to
 
   -- each place of what a copy makes is one or the other
-  each : (from tree : Tree) → in_order from ≡ true → are_paths (copied source rev path r from) ≡ true → (k : List ℕ) → IsEither from tree k (at k (all_placed (copied source rev path r from) tree))
+  pub each : (from tree : Tree) → in_order from ≡ true → are_paths (copied source rev path r from) ≡ true → (k : List ℕ) → IsEither from tree k (at k (all_placed (copied source rev path r from) tree))
   each [] tree sorted fits k = inr (record { is = refl; none = λ p some under to. absurd (cc some) })
   each (e ∷ es) tree sorted fits k = by_under (is_under e.0 source) refl fits (λ t f. each es t (and_parts (below_all (slice_cmp nat_cmp) e.0 es) (in_order es) sorted).1 f k)
     where
@@ -300,15 +300,15 @@ module _ (path : List ℕ) (tree : Tree) (one : is_path path ≡ true) (other : 
       either true e go dir = let less = cut_shorter rest e in go (omega arith) (some_dir (at (path ++ 47 ∷ before_last_slash rest) tree) dir)
       either false e go dir = none_is_no_dir (at path tree) free dir
 
-  absent : (rest : List ℕ) → is_some (at (path ++ 47 ∷ rest) tree) ≡ true → ⊥
+  pub absent : (rest : List ℕ) → is_some (at (path ++ 47 ∷ rest) tree) ≡ true → ⊥
   absent rest some = absent_up_to (suc (length rest)) rest (omega arith) some
 
 -- where a copy puts what is under its source
 pub record IsMoved (source path p : List ℕ) : Type 0 where
-  apart : bytes_eq p source ≡ false
-  rest : List ℕ
-  is : p ≡ front_of source ++ 47 ∷ rest
-  to : moved source path p ≡ path ++ 47 ∷ rest
+  pub apart : bytes_eq p source ≡ false
+  pub rest : List ℕ
+  pub is : p ≡ front_of source ++ 47 ∷ rest
+  pub to : moved source path p ≡ path ++ 47 ∷ rest
 
 abbrev pub Goes : List ℕ → List ℕ → List ℕ → Type 0
 Goes source path p = (p ≡ source) ⊎ IsMoved source path p
