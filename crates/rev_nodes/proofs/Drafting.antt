@@ -1,7 +1,6 @@
 -- What the changes of a draft do to the tree of its base.
 use Rattle.std.proofs.Common.{◌⊎◌, ◌≡◌, ℕ, ◌+◌, ◌<◌, Bool, true, false, ◌||◌, cond, not, nat_eq, List, [], ◌∷◌, ◌++◌, Option, None, Some, Result, Ok, length, refl, sym, ap, ◌∙◌, inl, inr, arith}
 use Rattle.std.specs.Prelude.{if◌then◌else◌, is_some}
-use Rattle.std.specs.List.{list_any}
 use Rattle.std.specs.Option.{option_map_or}
 use Rattle.std.specs.Str.{bytes_eq}
 use Rattle.std.specs.Ordering.{nat_cmp, eq_by_cmp}
@@ -15,7 +14,7 @@ use Rattle.dsv_base.specs.declared.prop.Prop.{Prop}
 use Rattle.rev_nodes.specs.declared.change.Change.{Change}
 use Rattle.rev_nodes.specs.declared.change.Change.TheVariants.{Put, SetProp, DelProp, Mkdir, Delete, Copy}
 use Rattle.rev_nodes.specs.declared.unfit.Unfit.{Unfit}
-use Rattle.rev_nodes.specs.declared.unfit.Unfit.TheVariants.{NoNode, TooLong}
+use Rattle.rev_nodes.specs.declared.unfit.Unfit.TheVariants.{NoNode}
 use Rattle.rev_nodes.specs.Trees.{TreeNode, Tree, at, tree_at, is_dir, new_dir}
 use Rattle.rev_nodes.specs.Changes.{moved, copied_node, copied, are_paths, or_too_long, unfit_new, unfit_copy, unfit, mark, marked, with_text, placed, all_placed, with_prop, without_prop, with_props, without, apply, unless, apply_from}
 use Rattle.rev_nodes.specs.ChangedPaths.{path_of}
@@ -24,7 +23,7 @@ use Rattle.rev_nodes.specs.Formed.{IsFormed}
 use Rattle.rev_nodes.specs.Drafts.{coming, draft_tree, is_copied_to, touches, is_touched, is_made_in, TellsTouched}
 use Rattle.rev_nodes.proofs.Below.{or_false, same_from, differ, front_long, under_itself, under_more, behind, moved_source}
 use Rattle.rev_nodes.proofs.Marks.{any_revision}
-use Rattle.rev_nodes.proofs.Forming.{none_is_no_dir, at-placed, tied, IsFree, free_from, at-without, IsCopied, IsAsBefore, IsEither, each, absent, Goes, goes, some_is, within}
+use Rattle.rev_nodes.proofs.Forming.{none_is_no_dir, at-placed, tied, IsFree, free_from, at-without, IsCopied, IsEither, each, absent, Goes, goes, some_is, within}
 use Rattle.rev_nodes.proofs.NodesSound.{went_on}
 
 -- ---- what stands at a path after marks
