@@ -17,12 +17,11 @@ use Rattle.rev_nodes.specs.Fitting.{in_order, is_want}
 use Rattle.rev_nodes.proofs.Forming.{formed_change}
 use Rattle.rev_nodes.specs.Subtrees.{path_below}
 use Rattle.node_table.specs.Ways.{Name, are_names, names_in}
-use Rattle.node_table.specs.Tables.{cell_at, child_in, reach, spot_in, below_line, walk, spot_node, seen, IsSoundTable}
-use Rattle.node_table.specs.Rebuilt.{stamped, root_spot}
+use Rattle.node_table.specs.Tables.{cell_at, child_in, reach, spot_in, below_line, spot_node, seen, IsSoundTable}
+use Rattle.node_table.specs.Rebuilt.{stamped}
 use Rattle.node_table.specs.Shown.{IsShown, ShowsAll}
 use Rattle.node_table.specs.Limits.{AllFit, HasLong}
 use Rattle.node_table.specs.Steps.{IsSource, AreSources, HasSource}
-use Rattle.node_table.proofs.Ways.{path_at-append, names-append}
 use Rattle.node_table.proofs.PathNames.{names_of_path}
 use Rattle.node_table.proofs.Fronts.{not-root}
 use Rattle.node_table.proofs.Growing.{walk_none, reach_within, younger}

@@ -18,7 +18,6 @@ use Rattle.rev_nodes.specs.declared.cell.Cell.{Cell}
 use Rattle.rev_nodes.specs.Subtrees.{path_below}
 use Rattle.node_table.specs.Ways.{Name, are_names, names_in}
 use Rattle.node_table.specs.Tables.{child_in, reach, Spot, walk, spot_node, seen, IsSoundTable}
-use Rattle.node_table.specs.Rebuilt.{root_spot}
 use Rattle.node_table.specs.Shown.{ShowsAll}
 use Rattle.node_table.specs.Limits.{fits, AllFit, HasLong}
 use Rattle.node_table.proofs.Ways.{path_at-append, names-append, way_under, under-names}
