@@ -17,12 +17,11 @@ use Rattle.rev_nodes.specs.Fitting.{in_order, is_want}
 use Rattle.rev_nodes.proofs.Forming.{formed_change}
 use Rattle.rev_nodes.specs.Subtrees.{path_below}
 use Rattle.node_table.specs.Ways.{Name, are_names, names_in}
-use Rattle.node_table.specs.Tables.{cell_at, child_in, reach, spot_in, below_line, walk, spot_node, seen, IsSoundTable}
-use Rattle.node_table.specs.Rebuilt.{stamped, root_spot}
+use Rattle.node_table.specs.Tables.{cell_at, child_in, reach, spot_in, below_line, spot_node, seen, IsSoundTable}
+use Rattle.node_table.specs.Rebuilt.{stamped}
 use Rattle.node_table.specs.Shown.{IsShown, ShowsAll}
 use Rattle.node_table.specs.Limits.{AllFit, HasLong}
 use Rattle.node_table.specs.Steps.{IsSource, AreSources, HasSource}
-use Rattle.node_table.proofs.Ways.{path_at-append, names-append}
 use Rattle.node_table.proofs.PathNames.{names_of_path}
 use Rattle.node_table.proofs.Fronts.{not-root}
 use Rattle.node_table.proofs.Growing.{walk_none, reach_within, younger}
@@ -34,7 +33,7 @@ use Rattle.tree_edits.specs.Reading.{Glance, glance_of}
 use Rattle.tree_edits.specs.Applied.{Does}
 use Rattle.tree_edits.proofs.Views.{none_from, over_shown}
 use Rattle.tree_edits.proofs.Glances.{sees_dir, glance_dir}
-use Rattle.tree_edits.proofs.Moved.{walk-append, copied_seen, over_below, over_aside}
+use Rattle.tree_edits.proofs.Moved.{source_seen, copied_seen, over_below, over_aside}
 use Rattle.tree_edits.proofs.Short.{paths_fit, path_too_long}
 use Rattle.tree_edits.proofs.Doing.{above_touched, touched_held, root_touched, below_kept, few_done, are_fresh, none_there}
 use Rattle.tree_edits.proofs.Steps.{same_edits, parent_none, stands_at}
@@ -87,11 +86,8 @@ module _ (r : ℕ) (cells : List Cell) (old new : EditedTree) (are : AreEdits r 
     place = spot_of cells from_root (names_in source) id there
 
     from_seen : (ms : List Name) → are_names ms ≡ true → at (path_below source ms) from ≡ seen cells (Some place.spot) ms
-    from_seen ms k =
-        let n = names_of_path source source_one in
-        ap (λ p. at p from) (ap (λ s. path_below s ms) (sym n.path) ∙ sym (path_at-append root_text (names_in source) ms))
-        ∙ from_shown (names_in source ++ ms) (names-append (names_in source) ms n.names k)
-        ∙ ap (option_map (spot_node cells)) (walk-append cells (Some (root_spot cells from_root)) (names_in source) ms ∙ ap (λ o. walk cells o ms) place.is)
+    unfolding place
+    from_seen = source_seen cells from_root id source source_one there from from_shown
 
     spot_seen : (ms : List Name) → seen cells (Some (record { id = id; line = place.spot.line })) ms ≡ seen cells (Some place.spot) ms
     spot_seen ms = ap (λ (k : ℕ). seen cells (Some (record { id = k; line = place.spot.line })) ms) (sym place.id_is)
@@ -150,42 +146,38 @@ module _ (rev : ℕ) (source path : List ℕ) (cells : List Cell) (old : EditedT
       not_here : {X : Type 0} → names_in path ≡ [] → X
       not_here e = absurd (let d = sym (ap is_dir (ap (λ p. at p tree) (sym (ap (path_below root_text) e) ∙ (names_of_path path one).path) ∙ gone)) ∙ is.formed.root in cc d)
 
-      pub other_path : bytes_eq (path_below root_text (names_in path)) root_text ≡ false
-      other_path = by (names_in path) refl
+      -- the path has a name, so that what holds of each such path holds of this one
+      by_names : (P : List ℕ → List Name → Type 0) → ((q : Name) (qs : List Name) → are_names (q ∷ qs) ≡ true → is_path (path_below root_text (q ∷ qs)) ≡ true → P (path_below root_text (q ∷ qs)) (q ∷ qs)) → P path (names_in path)
+      by_names P each = by (names_in path) refl
         where
-          by : (ws : List Name) → names_in path ≡ ws → bytes_eq (path_below root_text ws) root_text ≡ false
+          by : (ws : List Name) → names_in path ≡ ws → P path ws
           by [] e = not_here e
-          by (q ∷ qs) e = not-root q qs (sym (ap are_names e) ∙ (names_of_path path one).names)
+          by (q ∷ qs) e =
+              let n = names_of_path path one in
+              let path_is : path_below root_text (q ∷ qs) ≡ path = ap (path_below root_text) (sym e) ∙ n.path in
+              subst (λ p. P p (q ∷ qs)) path_is (each q qs (sym (ap are_names e) ∙ n.names) (ap is_path path_is ∙ one))
+
+      pub other_path : bytes_eq (path_below root_text (names_in path)) root_text ≡ false
+      other_path = by_names (λ p ws. bytes_eq (path_below root_text ws) root_text ≡ false) (λ q qs named whole. not-root q qs named)
+
+      -- where a directory stands at the parent, the lengths alone decide
+      by_length : (fits : Bool) → has_parent path tree ≡ true → are_paths (copied source rev path 0 from_tree) ≡ fits → unfit (changes.Copy source rev path) trees tree ≡ or_too_long None fits
+      by_length fits has are = unfit_is ∙ ap (λ o. or_too_long o (are_paths (copied source rev path 0 from_tree))) (free_is true has) ∙ ap (or_too_long None) are
 
       module _ (sound : IsSoundTable cells) where
-        fits_by : (ws : List Name) → names_in path ≡ ws → (s : ℕ) → AllFit cells (64 - length (names_in path)) (1024 - length path) id → are_paths (copied source rev path s from_tree) ≡ true
-        fits_by [] e s all = not_here e
-        fits_by (q ∷ qs) e s all =
-            let n = names_of_path path one in
-            let path_is : path ≡ path_below root_text (q ∷ qs) = sym n.path ∙ ap (path_below root_text) e in
-            let named : are_names (q ∷ qs) ≡ true = sym (ap are_names e) ∙ n.names in
-            subst (λ p. are_paths (copied source rev p s from_tree) ≡ true) (sym path_is)
-            (paths_fit cells sound from id source source_one there from_tree from_is.shown (sources.sorted rev) from_is.formed rev s q qs named (sym (ap is_path path_is) ∙ one) (not-root q qs named)
-            (subst (λ p. AllFit cells (64 - length (q ∷ qs)) (1024 - length p) id) path_is (subst (λ ws. AllFit cells (64 - length ws) (1024 - length path) id) e all)))
+        pub copy_short : (s : ℕ) → AllFit cells (64 - length (names_in path)) (1024 - length path) id → are_paths (copied source rev path s from_tree) ≡ true
+        copy_short s = by_names (λ p ws. AllFit cells (64 - length ws) (1024 - length p) id → are_paths (copied source rev p s from_tree) ≡ true)
+            (λ q qs named whole. paths_fit cells sound from id source source_one there from_tree from_is.shown (sources.sorted rev) from_is.formed rev s q qs named whole (not-root q qs named))
 
-        long_by : (ws : List Name) → names_in path ≡ ws → (s : ℕ) → HasLong cells (64 - length (names_in path)) (1024 - length path) id → are_paths (copied source rev path s from_tree) ≡ false
-        long_by [] e s long = not_here e
-        long_by (q ∷ qs) e s long =
-            let n = names_of_path path one in
-            let path_is : path ≡ path_below root_text (q ∷ qs) = sym n.path ∙ ap (path_below root_text) e in
-            let named : are_names (q ∷ qs) ≡ true = sym (ap are_names e) ∙ n.names in
-            subst (λ p. are_paths (copied source rev p s from_tree) ≡ false) (sym path_is)
-            (path_too_long cells sound from id source source_one there from_tree from_is.shown (sources.sorted rev) from_is.formed rev s q qs named (sym (ap is_path path_is) ∙ one) (not-root q qs named)
-            (subst (λ p. HasLong cells (64 - length (q ∷ qs)) (1024 - length p) id) path_is (subst (λ ws. HasLong cells (64 - length ws) (1024 - length path) id) e long)))
+        copy_long : HasLong cells (64 - length (names_in path)) (1024 - length path) id → are_paths (copied source rev path 0 from_tree) ≡ false
+        copy_long = by_names (λ p ws. HasLong cells (64 - length ws) (1024 - length p) id → are_paths (copied source rev p 0 from_tree) ≡ false)
+            (λ q qs named whole. path_too_long cells sound from id source source_one there from_tree from_is.shown (sources.sorted rev) from_is.formed rev 0 q qs named whole (not-root q qs named))
 
         pub copy_too_long : has_parent path tree ≡ true → HasLong cells (64 - length (names_in path)) (1024 - length path) id → unfit (changes.Copy source rev path) trees tree ≡ Some whys.TooLong
-        copy_too_long has long = unfit_is ∙ ap (λ o. or_too_long o (are_paths (copied source rev path 0 from_tree))) (free_is true has) ∙ ap (or_too_long None) (long_by (names_in path) refl 0 long)
-
-        pub copy_short : (s : ℕ) → AllFit cells (64 - length (names_in path)) (1024 - length path) id → are_paths (copied source rev path s from_tree) ≡ true
-        copy_short s all = fits_by (names_in path) refl s all
+        copy_too_long has long = by_length false has (copy_long long)
 
         pub copy_fits : has_parent path tree ≡ true → AllFit cells (64 - length (names_in path)) (1024 - length path) id → unfit (changes.Copy source rev path) trees tree ≡ None
-        copy_fits has all = unfit_is ∙ ap (λ o. or_too_long o (are_paths (copied source rev path 0 from_tree))) (free_is true has) ∙ ap (or_too_long None) (copy_short 0 all)
+        copy_fits has all = by_length true has (copy_short 0 all)
 
 -- ---- a copy does what it is to do
 

@@ -1,5 +1,4 @@
 pub mod Lists
-pub mod Copied
 pub mod Moved
 pub mod Short
 pub mod Texts

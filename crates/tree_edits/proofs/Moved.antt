@@ -11,14 +11,18 @@ use Rattle.rev_nodes.specs.Trees.{TreeNode, Tree, at}
 use Rattle.rev_nodes.specs.Changes.{moved, copied_node, copied, are_paths, all_placed}
 use Rattle.rev_nodes.specs.Formed.{IsFormed}
 use Rattle.rev_nodes.specs.Fitting.{in_order}
+use Rattle.rev_nodes.proofs.Forming.{each, IsCopied, IsAsBefore}
 use Rattle.rev_nodes.proofs.Below.{front_long, apart_front, moved_behind, moved_source}
 use Rattle.rev_nodes.specs.Subtrees.{path_below}
-use Rattle.node_table.specs.Ways.{Name, are_names, is_front}
-use Rattle.node_table.specs.Tables.{cell_at, child_in, Spot, spot_in, below_line, one_down, walk, spot_node, seen, IsSoundTable}
+use Rattle.node_table.specs.Ways.{Name, are_names, names_in, is_front}
+use Rattle.node_table.specs.Tables.{cell_at, child_in, reach, Spot, spot_in, below_line, one_down, walk, spot_node, seen, IsSoundTable}
+use Rattle.node_table.specs.Rebuilt.{root_spot}
+use Rattle.node_table.specs.Shown.{ShowsAll}
 use Rattle.node_table.proofs.Ways.{path_at-append, names-append, way_under, under-names}
 use Rattle.node_table.proofs.Fronts.{joined, path-joined, some-joined, one-way, front-append}
+use Rattle.node_table.proofs.PathNames.{names_of_path}
+use Rattle.node_table.proofs.Found.{spot_of}
 use Rattle.node_table.proofs.Growing.{walk_none}
-use Rattle.tree_edits.proofs.Copied.{each, IsCopied, IsAsBefore}
 
 pub walk-append : (cells : List Cell) (spot : Option Spot) (ms ns : List Name) → walk cells spot (ms ++ ns) ≡ walk cells (walk cells spot ms) ns
 walk-append cells spot [] ns = refl
@@ -48,6 +52,14 @@ module _ (cells : List Cell) (sound : IsSoundTable cells) (r rev : ℕ) where
           let since = (sound i).since in
           ap (λ (x : Line). seen cells (Some (record { id = i; line = x })) ns) (line_below p n (cell_at cells i).line (omega (arith, since, older, young)))
           ∙ go i (omega (arith, older, young))
+
+-- what is seen at the source, and below it, is what the tree that is copied from has there
+pub source_seen : (cells : List Cell) (root id : ℕ) (source : List ℕ) → is_path source ≡ true → (there : reach cells (Some root) (names_in source) ≡ Some id) (from : Tree) → ShowsAll cells root from → (ms : List Name) → are_names ms ≡ true → at (path_below source ms) from ≡ seen cells (Some (spot_of cells root (names_in source) id there).spot) ms
+source_seen cells root id source one there from shown ms k =
+    let n = names_of_path source one in
+    ap (λ p. at p from) (ap (λ s. path_below s ms) (sym n.path) ∙ sym (path_at-append root_text (names_in source) ms))
+    ∙ shown (names_in source ++ ms) (names-append (names_in source) ms n.names k)
+    ∙ ap (option_map (spot_node cells)) (walk-append cells (Some (root_spot cells root)) (names_in source) ms ∙ ap (λ o. walk cells o ms) (spot_of cells root (names_in source) id there).is)
 
 -- where a copy puts what names lead to from its source
 pub moved_names : (source path : List ℕ) (ms : List Name) → are_names ms ≡ true → bytes_eq path root_text ≡ false → moved source path (path_below source ms) ≡ path_below path ms

@@ -2,7 +2,7 @@
 use Rattle.std.proofs.Common.{◌≡◌, ℕ, Bool, true, false, List, [], ◌∷◌, ◌++◌, Option, None, Some, refl, sym, ap, ◌∙◌, append_assoc, append-nil}
 use Rattle.std.specs.Prelude.{if◌then◌else◌}
 use Rattle.std.specs.Option.{option_map, option_map_or}
-use Rattle.std.proofs.lemmas.Bool.{and_parts, and_from}
+use Rattle.std.proofs.lemmas.Bool.{and_parts}
 use Rattle.dsv_base.specs.Paths.{is_component, root_text, parent_text, join_text}
 use Rattle.rev_nodes.specs.declared.cell.Cell.{Cell}
 use Rattle.rev_nodes.specs.Trees.{Tree, at, is_dir, is_dir_kind}
@@ -14,7 +14,7 @@ use Rattle.node_table.proofs.Ways.{path_at-more}
 use Rattle.node_table.specs.Tables.{IsSoundTable}
 use Rattle.tree_edits.specs.Edits.{Held, Touched, EditedTree, held_from, held_root, held_node, AreShown}
 use Rattle.tree_edits.specs.Hanging.{child_held, marked_at, hung_in, hung_at}
-use Rattle.tree_edits.proofs.Texts.{ends, parts_of, parent_at}
+use Rattle.tree_edits.proofs.Texts.{front_named, ends, parts_of, parent_at}
 use Rattle.tree_edits.proofs.Views.{stepped}
 use Rattle.tree_edits.proofs.Kept.{unmarked_held}
 
@@ -43,15 +43,8 @@ module _ (r : ℕ) (cells : List Cell) (sound : IsSoundTable cells) (leaf : Opti
       let d = dirs [] (q ∷ qs) refl in
       let p = and_parts (is_component q) (are_names qs) k in
       by (is_dir_kind h.node.kind) d e (λ f. all_dirs qs last (marked_at r path h touched) (join_text path q) (child_held cells (marked_at r path h touched) path q h) p.1
-      (λ fs gs is. ap (λ o. is_dir (option_map held_node o)) (unmarked_held cells sound r touched path h q fs (front_names fs gs (ap are_names (ap (λ xs. q ∷ xs) is) ∙ k))) ∙ dirs (q ∷ fs) gs (ap (λ xs. q ∷ xs) is)) f)
+      (λ fs gs is. ap (λ o. is_dir (option_map held_node o)) (unmarked_held cells sound r touched path h q fs (front_named (q ∷ fs) gs (ap are_names (ap (λ xs. q ∷ xs) is) ∙ k))) ∙ dirs (q ∷ fs) gs (ap (λ xs. q ∷ xs) is)) f)
     where
-      front_names : (fs gs : List Name) → are_names (q ∷ fs ++ gs) ≡ true → are_names (q ∷ fs) ≡ true
-      front_names fs gs z = let x = and_parts (is_component q) (are_names (fs ++ gs)) z in and_from (is_component q) (are_names fs) x.0 (only fs gs x.1)
-        where
-          only : (xs ys : List Name) → are_names (xs ++ ys) ≡ true → are_names xs ≡ true
-          only [] ys w = refl
-          only (x ∷ xs) ys w = let v = and_parts (is_component x) (are_names (xs ++ ys)) w in and_from (is_component x) (are_names xs) v.0 (only xs ys v.1)
-
       by : (b : Bool) → b ≡ true → (if b then hung_in r cells leaf (marked_at r path h touched) (join_text path q) (child_held cells (marked_at r path h touched) path q h) (qs ++ last ∷ []) else None) ≡ None → (hung_in r cells leaf (marked_at r path h touched) (join_text path q) (child_held cells (marked_at r path h touched) path q h) (qs ++ last ∷ []) ≡ None → ⊥) → ⊥
       by true d e go = go e
       by false d e go = cc d
@@ -63,12 +56,8 @@ module _ (r : ℕ) (cells : List Cell) (sound : IsSoundTable cells) (leaf : Opti
     dirs_up (g ∷ gs) fs k d =
         let whole : (fs ++ g ∷ []) ++ gs ≡ fs ++ g ∷ gs = append_assoc fs (g ∷ []) gs in
         let more = dirs_up gs (fs ++ g ∷ []) (ap are_names whole ∙ k) (ap (λ xs. is_dir (at (path_below root_text xs) tree)) whole ∙ d) in
-        let named = parts_of fs g (only (fs ++ g ∷ []) gs (ap are_names whole ∙ k)) in
+        let named = parts_of fs g (front_named (fs ++ g ∷ []) gs (ap are_names whole ∙ k)) in
         is.formed.parents (path_below root_text (fs ++ g ∷ [])) (path_below root_text fs) (some_dir _ more) (ap parent_text (path_at-more root_text fs g) ∙ parent_at fs g named.0 named.1)
-      where
-        only : (xs ys : List Name) → are_names (xs ++ ys) ≡ true → are_names xs ≡ true
-        only [] ys w = refl
-        only (x ∷ xs) ys w = let v = and_parts (is_component x) (are_names (xs ++ ys)) w in and_from (is_component x) (are_names xs) v.0 (only xs ys v.1)
 
     parent_dir : (front : List Name) (last : Name) → are_names (front ++ last ∷ []) ≡ true → has_parent (path_below root_text (front ++ last ∷ [])) tree ≡ is_dir (at (path_below root_text front) tree)
     parent_dir front last k =
@@ -92,9 +81,5 @@ module _ (r : ℕ) (cells : List Cell) (sound : IsSoundTable cells) (leaf : Opti
         let p = parts_of x.front x.last named in
         let dir : is_dir (at (path_below root_text x.front) tree) ≡ true = sym (parent_dir x.front x.last named) ∙ sym (ap (λ ws. has_parent (path_below root_text ws) tree) x.is) ∙ has in
         all_dirs x.front x.last edits.touched root_text (held_root cells edits) p.0
-        (λ fs gs cut. ap is_dir (sym (is.shows fs (only fs gs (ap are_names cut ∙ p.0)))) ∙ dirs_up gs fs (ap are_names cut ∙ p.0) (ap (λ xs. is_dir (at (path_below root_text xs) tree)) cut ∙ dir))
+        (λ fs gs cut. ap is_dir (sym (is.shows fs (front_named fs gs (ap are_names cut ∙ p.0)))) ∙ dirs_up gs fs (ap are_names cut ∙ p.0) (ap (λ xs. is_dir (at (path_below root_text xs) tree)) cut ∙ dir))
         (sym (ap (hung_at r cells leaf edits) x.is) ∙ e)
-      where
-        only : (xs ys : List Name) → are_names (xs ++ ys) ≡ true → are_names xs ≡ true
-        only [] ys w = refl
-        only (x ∷ xs) ys w = let v = and_parts (is_component x) (are_names (xs ++ ys)) w in and_from (is_component x) (are_names xs) v.0 (only xs ys v.1)

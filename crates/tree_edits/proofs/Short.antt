@@ -18,14 +18,13 @@ use Rattle.rev_nodes.specs.declared.cell.Cell.{Cell}
 use Rattle.rev_nodes.specs.Subtrees.{path_below}
 use Rattle.node_table.specs.Ways.{Name, are_names, names_in}
 use Rattle.node_table.specs.Tables.{child_in, reach, Spot, walk, spot_node, seen, IsSoundTable}
-use Rattle.node_table.specs.Rebuilt.{root_spot}
 use Rattle.node_table.specs.Shown.{ShowsAll}
 use Rattle.node_table.specs.Limits.{fits, AllFit, HasLong}
 use Rattle.node_table.proofs.Ways.{path_at-append, names-append, way_under, under-names}
 use Rattle.node_table.proofs.PathNames.{names_of_path}
 use Rattle.node_table.proofs.Fronts.{joined, path-joined, joined-components, names-back}
 use Rattle.node_table.proofs.Growing.{reach_none, walk-reach}
-use Rattle.tree_edits.proofs.Moved.{walk-append, moved_names}
+use Rattle.tree_edits.proofs.Moved.{source_seen, moved_names}
 use Rattle.node_table.proofs.Found.{HasSpot, spot_of}
 
 -- the bytes of names with a slash before each
@@ -155,11 +154,8 @@ module _ (cells : List Cell) (sound : IsSoundTable cells) (from_root id : ℕ) (
   place = spot_of cells from_root (names_in source) id there
 
   seen_from : (ms : List Name) → are_names ms ≡ true → at (path_below source ms) from ≡ seen cells (Some place.spot) ms
-  seen_from ms k =
-      let n = names_of_path source source_one in
-      ap (λ p. at p from) (ap (λ s. path_below s ms) (sym n.path) ∙ sym (path_at-append root_text (names_in source) ms))
-      ∙ shown (names_in source ++ ms) (names-append (names_in source) ms n.names k)
-      ∙ ap (option_map (spot_node cells)) (walk-append cells (Some (root_spot cells from_root)) (names_in source) ms ∙ ap (λ o. walk cells o ms) place.is)
+  unfolding place
+  seen_from = source_seen cells from_root id source source_one there from shown
 
   reach_is : (ms : List Name) → option_map (λ (s : Spot). s.id) (walk cells (Some place.spot) ms) ≡ reach cells (Some id) ms
   reach_is ms = walk-reach cells ms (Some place.spot) ∙ ap (λ (k : ℕ). reach cells (Some k) ms) place.id_is

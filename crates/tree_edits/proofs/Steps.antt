@@ -10,7 +10,7 @@ use Rattle.rev_nodes.specs.declared.change.Change.TheVariants as changes
 use Rattle.rev_nodes.specs.declared.unfit.Unfit.{Unfit}
 use Rattle.rev_nodes.specs.declared.unfit.Unfit.TheVariants as whys
 use Rattle.rev_nodes.specs.Trees.{TreeNode, Tree, at, is_dir, is_file, is_dir_kind, new_file, new_dir}
-use Rattle.rev_nodes.specs.Changes.{has_parent, unfit_new, unfit, apply, marked, placed, edited, with_prop, without_prop}
+use Rattle.rev_nodes.specs.Changes.{has_parent, unfit_new, unfit, apply, marked, placed, edited}
 use Rattle.rev_nodes.specs.Changes as flat
 use Rattle.rev_nodes.specs.ChangedPaths.{path_of}
 use Rattle.rev_nodes.specs.Formed.{IsFormed}
@@ -28,6 +28,7 @@ use Rattle.tree_edits.specs.Edits.{Held, Touched, EditedTree, held, held_node, s
 use Rattle.tree_edits.specs.AreEdits.{IsHeld, AreEdits}
 use Rattle.tree_edits.specs.Hanging.{held_with_text, held_with_props, hung_at, Hangs}
 use Rattle.tree_edits.specs.Applied.{Does}
+use Rattle.tree_edits.specs.PropChanges.{prop_change, changed_props}
 use Rattle.tree_edits.proofs.Texts.{ends, parts_of, parent_at}
 use Rattle.tree_edits.proofs.Parents.{has_hung, not_hung}
 use Rattle.tree_edits.proofs.Doing.{few_done, found_is, are_over, shows_over, are_fresh, shows_fresh}
@@ -198,38 +199,33 @@ pub dir_exists : (cells : List Cell) (old : EditedTree) (path : List ℕ) → is
 unfolding unfit
 dir_exists cells old path one h e trees tree is = ap (λ o. if is_some o then Some whys.Exists else if has_parent path tree then None else Some whys.NoParent) (stands_at cells old path one (Some h) e tree is)
 
-pub prop_set : (r : ℕ) (path name value : List ℕ) (h h2 : Held) → h2 ≡ held_with_props r (with_prop (record { name = name; value = value }) h.node.props) h → IsOver r (changes.SetProp path name value) path h h2
-unfolding unfit apply
-prop_set r path name value h h2 is = subst (IsOver r (changes.SetProp path name value) path h) (sym is) (record {
+-- a change of a property fits where something stands, and edits that
+prop_fits : (path name : List ℕ) (value : Option (List ℕ)) (trees : List Tree) (tree : Tree) → unfit (prop_change path name value) trees tree ≡ (if is_some (at path tree) then None else Some whys.NoNode)
+unfolding unfit
+prop_fits path name None trees tree = refl
+prop_fits path name (Some value) trees tree = refl
+
+prop_applies : (r : ℕ) (path name : List ℕ) (value : Option (List ℕ)) (trees : List Tree) (tree : Tree) → apply (prop_change path name value) trees tree r ≡ marked r path (edited (changed_props name value) path tree)
+unfolding apply
+prop_applies r path name None trees tree = refl
+prop_applies r path name (Some value) trees tree = refl
+
+prop_path : (path name : List ℕ) (value : Option (List ℕ)) → path_of (prop_change path name value) ≡ path
+prop_path path name None = refl
+prop_path path name (Some value) = refl
+
+pub prop_changed : (r : ℕ) (path name : List ℕ) (value : Option (List ℕ)) (h h2 : Held) → h2 ≡ held_with_props r (changed_props name value h.node.props) h → IsOver r (prop_change path name value) path h h2
+prop_changed r path name value h h2 is = subst (IsOver r (prop_change path name value) path h) (sym is) (record {
   line = refl;
   under = refl;
   kind = refl;
   created = refl;
-  at_path = refl;
-  fits = λ trees tree there. ap (λ o. if is_some o then None else Some whys.NoNode) there;
-  node = flat.with_props (with_prop (record { name = name; value = value })) (held_node h);
+  at_path = prop_path path name value;
+  fits = λ trees tree there. prop_fits path name value trees tree ∙ ap (λ o. if is_some o then None else Some whys.NoNode) there;
+  node = flat.with_props (changed_props name value) (held_node h);
   node_is = refl;
-  applied = λ trees tree there. ap (marked r path) (edited-found (with_prop (record { name = name; value = value })) path tree (held_node h) there);
+  applied = λ trees tree there. prop_applies r path name value trees tree ∙ ap (marked r path) (edited-found (changed_props name value) path tree (held_node h) there);
 })
 
-pub prop_deleted : (r : ℕ) (path name : List ℕ) (h h2 : Held) → h2 ≡ held_with_props r (without_prop name h.node.props) h → IsOver r (changes.DelProp path name) path h h2
-unfolding unfit apply
-prop_deleted r path name h h2 is = subst (IsOver r (changes.DelProp path name) path h) (sym is) (record {
-  line = refl;
-  under = refl;
-  kind = refl;
-  created = refl;
-  at_path = refl;
-  fits = λ trees tree there. ap (λ o. if is_some o then None else Some whys.NoNode) there;
-  node = flat.with_props (without_prop name) (held_node h);
-  node_is = refl;
-  applied = λ trees tree there. ap (marked r path) (edited-found (without_prop name) path tree (held_node h) there);
-})
-
-pub none_to_set : (cells : List Cell) (old : EditedTree) (path name value : List ℕ) → is_path path ≡ true → held cells old (names_in path) ≡ None → (trees : List Tree) (tree : Tree) → AreShown cells old tree → unfit (changes.SetProp path name value) trees tree ≡ Some whys.NoNode
-unfolding unfit
-none_to_set cells old path name value one e trees tree is = ap (λ o. if is_some o then None else Some whys.NoNode) (stands_at cells old path one None e tree is)
-
-pub none_to_delete : (cells : List Cell) (old : EditedTree) (path name : List ℕ) → is_path path ≡ true → held cells old (names_in path) ≡ None → (trees : List Tree) (tree : Tree) → AreShown cells old tree → unfit (changes.DelProp path name) trees tree ≡ Some whys.NoNode
-unfolding unfit
-none_to_delete cells old path name one e trees tree is = ap (λ o. if is_some o then None else Some whys.NoNode) (stands_at cells old path one None e tree is)
+pub none_to_change : (cells : List Cell) (old : EditedTree) (path name : List ℕ) (value : Option (List ℕ)) → is_path path ≡ true → held cells old (names_in path) ≡ None → (trees : List Tree) (tree : Tree) → AreShown cells old tree → unfit (prop_change path name value) trees tree ≡ Some whys.NoNode
+none_to_change cells old path name value one e trees tree is = prop_fits path name value trees tree ∙ ap (λ o. if is_some o then None else Some whys.NoNode) (stands_at cells old path one None e tree is)

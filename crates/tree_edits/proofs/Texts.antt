@@ -26,6 +26,10 @@ pub ends : (x : Name) (xs : List Name) → HasEnd x xs
 ends x [] = record { front = []; last = x; is = refl }
 ends x (y ∷ ys) = let e = ends y ys in record { front = x ∷ e.front; last = e.last; is = ap (λ zs. x ∷ zs) e.is }
 
+pub front_named : (ms ns : List Name) → are_names (ms ++ ns) ≡ true → are_names ms ≡ true
+front_named [] ns h = refl
+front_named (m ∷ ms) ns h = let p = and_parts (is_component m) (are_names (ms ++ ns)) h in and_from (is_component m) (are_names ms) p.0 (front_named ms ns p.1)
+
 pub parts_of : (ms : List Name) (n : Name) → are_names (ms ++ n ∷ []) ≡ true → (are_names ms ≡ true) × (is_component n ≡ true)
 parts_of [] n h = (refl, (and_parts (is_component n) true h).0)
 parts_of (m ∷ ms) n h = let p = and_parts (is_component m) (are_names (ms ++ n ∷ [])) h in let q = parts_of ms n p.1 in (and_from _ _ p.0 q.0, q.1)

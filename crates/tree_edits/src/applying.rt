@@ -44,9 +44,11 @@ impl Edits {
         match change {
             Change::Put { path, text } => self.put(alloc, cells, path, text, rev),
             Change::SetProp { path, name, value } => {
-                self.set_prop(alloc, cells, path, name, value, rev)
+                self.change_prop(alloc, cells, path, name, Some(value), rev)
             }
-            Change::DelProp { path, name } => self.del_prop(alloc, cells, path, name, rev),
+            Change::DelProp { path, name } => {
+                self.change_prop(alloc, cells, path, name, None, rev)
+            }
             Change::Mkdir { path } => self.mkdir(alloc, cells, path, rev),
             Change::Delete { path } => self.delete(alloc, cells, path, rev),
             Change::Copy {

@@ -1,12 +1,14 @@
 ghost use Rattle.std.specs.Prelude.{◌≡◌, ℕ, Option, None, []};
+ghost use Rattle.std.specs.Option.{option_copied};
 ghost use Rattle.rev_nodes.specs.declared.change.Change.TheVariants as told;
 ghost use Rattle.rev_nodes.specs.Trees.{new_line};
 ghost use Rattle.tree_edits.specs.AreEdits.{AreEdits};
 ghost use Rattle.tree_edits.specs.Applied.{Does};
+ghost use Rattle.tree_edits.specs.PropChanges.{prop_change};
 
 use crate::edits::Edits;
 use crate::held::Held;
-use crate::props::{with_prop, without_prop};
+use crate::props::changed_props;
 use dsv_base::{Bytes, Path, Rev};
 use rev_nodes::{Cell, Kind, Line, Node, Text, Unfit};
 use std::alloc::Global;
@@ -37,7 +39,8 @@ impl Edits {
         rev: Rev,
     ) -> Result<(), Unfit>
         requires { AreEdits rev cells.now self.old }
-        ensures { (from : Option ℕ) → Does rev (told.Put path.now text.now) cells.now self.old self.new from result }
+        ensures { (from : Option ℕ) → Does rev (told.Put path.now text.now)
+            cells.now self.old self.new from result }
     {
         match self.look(cells, path)? {
             None => {
@@ -54,45 +57,24 @@ impl Edits {
         }
     }
 
-    /// Sets a property of a node.
-    pub(crate) fn set_prop(
+    /// Sets a property of a node to a value, or removes it, if it is there, where there is none.
+    pub(crate) fn change_prop(
         &mut self,
         alloc: Global,
         cells: &[Cell],
         path: &Path,
         name: &Bytes,
-        value: &Bytes,
+        value: Option<&Bytes>,
         rev: Rev,
     ) -> Result<(), Unfit>
         requires { AreEdits rev cells.now self.old }
-        ensures { (from : Option ℕ) → Does rev (told.SetProp path.now name.now value.now) cells.now self.old self.new from result }
+        ensures { (from : Option ℕ) → Does rev (prop_change path.now name.now (option_copied value.entry))
+            cells.now self.old self.new from result }
     {
         match self.look(cells, path)? {
             None => Err(Unfit::NoNode),
             Some(place) => {
-                let props = with_prop(alloc, place.node().props.get(), name, value)?;
-                let held = place.into_held_with_props(props, rev)?;
-                self.hang(alloc, cells, path, Some(held), rev)
-            }
-        }
-    }
-
-    /// Removes a property of a node, if it is there.
-    pub(crate) fn del_prop(
-        &mut self,
-        alloc: Global,
-        cells: &[Cell],
-        path: &Path,
-        name: &Bytes,
-        rev: Rev,
-    ) -> Result<(), Unfit>
-        requires { AreEdits rev cells.now self.old }
-        ensures { (from : Option ℕ) → Does rev (told.DelProp path.now name.now) cells.now self.old self.new from result }
-    {
-        match self.look(cells, path)? {
-            None => Err(Unfit::NoNode),
-            Some(place) => {
-                let props = without_prop(alloc, place.node().props.get(), name)?;
+                let props = changed_props(alloc, place.node().props.get(), name, value)?;
                 let held = place.into_held_with_props(props, rev)?;
                 self.hang(alloc, cells, path, Some(held), rev)
             }

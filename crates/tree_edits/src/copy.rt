@@ -47,7 +47,8 @@ fn is_short(cells: &[Cell], id: NodeId, path: &Path) -> bool
     requires sound { IsSoundTable cells.now }
     requires within { id < length cells.now }
     ensures all { result ≡ true → AllFit cells.now (64 - length (names_in path.now)) (1024 - length path.now) id }
-    ensures some { result ≡ false → HasLong cells.now (64 - length (names_in path.now)) (1024 - length path.now) id }
+    ensures some { result ≡ false → HasLong cells.now (64 - length (names_in path.now))
+        (1024 - length path.now) id }
 {
     let text = path.text();
     fits_below(cells, id, 64 - depth(text), 1024 - text.len() as u64)
@@ -84,7 +85,8 @@ impl Edits {
     ) -> Result<(), Unfit>
         requires are { AreEdits rev cells.now self.old }
         requires from { IsSource rev cells.now from }
-        ensures { Does rev (told.Copy source.now source_rev path.now) cells.now self.old self.new (Some from) result }
+        ensures { Does rev (told.Copy source.now source_rev path.now)
+            cells.now self.old self.new (Some from) result }
     {
         match place_at(cells, from, source) {
             None => Err(Unfit::NoNode),
@@ -109,7 +111,8 @@ impl Edits {
         requires source { IsTrue (is_path source.now) }
         requires there { reach cells.now (Some from) (names_in source.now) ≡ Some id }
         requires within { id < length cells.now }
-        ensures { Does rev (told.Copy source.now source_rev path.now) cells.now self.old self.new (Some from) result }
+        ensures { Does rev (told.Copy source.now source_rev path.now)
+            cells.now self.old self.new (Some from) result }
     {
         if self.stands(cells, path) {
             return Err(Unfit::Exists);

@@ -104,7 +104,8 @@ fn hang_root(
     requires rest { IsRest text.now root_text rest.now }
     requires names { are_names (components rest.now) ≡ true }
     ensures { Hangs (hung_in rev cells.now leaf store.old root_text (or_touched (touched_at store.old root_text)
-        (Some (held_in cells.now (cell_at cells.now root).line root))) (components rest.now)) store.old store.new result }
+        (Some (held_in cells.now (cell_at cells.now root).line root))) (components rest.now))
+        store.old store.new result }
 {
     let place = root_place(cells, root)?;
     let before = match store.touch(alloc, b"/", Some(place), rev) {
@@ -195,7 +196,8 @@ impl Edits {
     ) -> Result<(), Unfit>
         requires can { CanReadEdits cells.now self.old }
         requires sorted { is_sorted (slice_cmp nat_cmp) self.old.touched ≡ true }
-        ensures says { Hangs (hung_at rev cells.now leaf self.old (names_in path.now)) self.old.touched self.new.touched result }
+        ensures says { Hangs (hung_at rev cells.now leaf self.old (names_in path.now))
+            self.old.touched self.new.touched result }
         ensures root { self.new.root ≡ self.old.root }
         ensures path { IsTrue (is_path path.now) }
     {

@@ -55,7 +55,8 @@ impl Store {
         rev: Rev,
     ) -> Result<Option<Rev>, Unfit>
         requires sorted { is_sorted (slice_cmp nat_cmp) self.old ≡ true }
-        ensures { Touches rev (or_touched (touched_at self.old path.now) place.entry) path.now self.old self.new result }
+        ensures { Touches rev (or_touched (touched_at self.old path.now) place.entry)
+            path.now self.old self.new result }
     {
         match self.get(path) {
             Some(None) => Err(Unfit::NoParent),
@@ -123,7 +124,8 @@ impl Store {
         requires rest { IsRest text.now path.now rest.now }
         requires names { are_names (components rest.now) ≡ true }
         ensures { (above : HeldRecord) → touched_at self.old path.now ≡ Some (Some above) →
-            Hangs (hung_below rev cells.now leaf self.old path.now above (components rest.now)) self.old self.new result }
+            Hangs (hung_below rev cells.now leaf self.old path.now above (components rest.now))
+            self.old self.new result }
     {
         match next_name(text, path, rest) {
             None => self.put(alloc, text, leaf),

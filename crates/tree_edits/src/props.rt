@@ -1,5 +1,7 @@
 ghost use Rattle.std.specs.Prelude.{◌≡◌, ◌∷◌, ◌++◌, IfOk};
+ghost use Rattle.std.specs.Option.{option_copied};
 ghost use Rattle.rev_nodes.specs.Changes.{with_prop, without_prop};
+ghost use Rattle.tree_edits.specs.PropChanges.{changed_props};
 
 use dsv_base::{Bytes, NoMemory, Prop};
 use rev_nodes::Shared;
@@ -14,8 +16,23 @@ fn copy_prop(prop: &Prop) -> Result<Prop, NoMemory>
     Ok(Prop { name, value })
 }
 
+/// The properties after one was set to a value, or removed where there is none.
+pub fn changed_props(
+    alloc: Global,
+    props: &[Prop],
+    name: &Bytes,
+    value: Option<&Bytes>,
+) -> Result<Shared<Prop>, NoMemory>
+    ensures { IfOk result (λ new. new ≡ changed_props name.now (option_copied value.entry) props.now) }
+{
+    match value {
+        Some(value) => with_prop(alloc, props, name, value),
+        None => without_prop(alloc, props, name),
+    }
+}
+
 /// The properties with this one, in byte order of the name.
-pub fn with_prop(
+fn with_prop(
     alloc: Global,
     props: &[Prop],
     name: &Bytes,
@@ -59,7 +76,7 @@ fn closed(
 }
 
 /// The properties without this one.
-pub fn without_prop(alloc: Global, props: &[Prop], name: &Bytes) -> Result<Shared<Prop>, NoMemory>
+fn without_prop(alloc: Global, props: &[Prop], name: &Bytes) -> Result<Shared<Prop>, NoMemory>
     ensures { IfOk result (λ new. new ≡ without_prop name.now props.now) }
 {
     let mut new = Vec::with_capacity(alloc, props.len())?;

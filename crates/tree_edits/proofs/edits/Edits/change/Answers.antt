@@ -10,10 +10,10 @@ pub returns-in-Put : goal.returns-in-Put
 returns-in-Put c = subst (λ ch. Does c.args.rev ch c.args.cells.now c.args.self.now c.put.new.self c.args.from c.put.result) (sym c.in-Put.is) (c.put.ensures c.args.from)
 
 pub returns-in-SetProp : goal.returns-in-SetProp
-returns-in-SetProp c = subst (λ ch. Does c.args.rev ch c.args.cells.now c.args.self.now c.set_prop.new.self c.args.from c.set_prop.result) (sym c.in-SetProp.is) (c.set_prop.ensures c.args.from)
+returns-in-SetProp c = subst (λ ch. Does c.args.rev ch c.args.cells.now c.args.self.now c.change_prop.new.self c.args.from c.change_prop.result) (sym c.in-SetProp.is) (c.change_prop.ensures c.args.from)
 
 pub returns-in-DelProp : goal.returns-in-DelProp
-returns-in-DelProp c = subst (λ ch. Does c.args.rev ch c.args.cells.now c.args.self.now c.del_prop.new.self c.args.from c.del_prop.result) (sym c.in-DelProp.is) (c.del_prop.ensures c.args.from)
+returns-in-DelProp c = subst (λ ch. Does c.args.rev ch c.args.cells.now c.args.self.now c.change_prop-in-DelProp.new.self c.args.from c.change_prop-in-DelProp.result) (sym c.in-DelProp.is) (c.change_prop-in-DelProp.ensures c.args.from)
 
 pub returns-in-Mkdir : goal.returns-in-Mkdir
 returns-in-Mkdir c = subst (λ ch. Does c.args.rev ch c.args.cells.now c.args.self.now c.mkdir.new.self c.args.from c.mkdir.result) (sym c.in-Mkdir.is) (c.mkdir.ensures c.args.from)
