@@ -43,6 +43,9 @@ use Rattle.rev_trees.proofs.Viewed.{length-of, nodes-of, trees-are, count-plain,
 pub grown_itself : (forest : Forest) → IsGrown forest forest
 grown_itself forest = record { later = []; revisions = sym (append-nil forest.revisions); more = []; nodes = sym (append-nil forest.nodes) }
 
+pub grown_same : (old new : Forest) → old ≡ new → IsGrown old new
+grown_same old new is = subst (λ (forest : Forest). IsGrown old forest) is (grown_itself old)
+
 pub grown_further : (old new last : Forest) → IsGrown old new → IsGrown new last → IsGrown old last
 grown_further old new last one two = record {
   later = one.later ++ two.later;

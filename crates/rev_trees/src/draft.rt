@@ -50,7 +50,8 @@ impl Draft {
     /// more.
     pub fn on(alloc: Global, trees: &Trees, base: Rev) -> Result<Draft, NoMemory>
         requires { base < length trees.now.revisions }
-        ensures { IfOk result (λ draft. draft ≡ record { trees = trees.now; base = base; changes = [] }) }
+        ensures is { IfOk result (λ draft. draft ≡ record { trees = trees.now; base = base; changes = [] }) }
+        ensures grown { IfOk result (λ draft. IsGrown draft.trees trees.now) }
     {
         if is_full(trees) {
             return Err(NoMemory);
@@ -98,19 +99,23 @@ impl Draft {
         ensures says { Fits (λ done. self.new ≡ record { trees = trees.now; base = self.old.base; changes = self.old.changes ++ change.now ∷ [] })
             (unfit change.now (flat_trees trees.now) (drafted trees.now self.old)) result }
         ensures kept { OnErr result (self.new ≡ self.old) }
+        ensures grown { IsGrown self.new.trees trees.now }
     {
         if is_full(trees) {
             return Err(Unfit::NoMemory);
         }
         self.changes.reserve(1)?;
         let copy = change.copy()?;
-        change_edits(
+        match change_edits(
             self.alloc,
             &mut self.edits,
             trees.cells(),
             trees.kept(),
             change,
-        )?;
+        ) {
+            Ok(()) => (),
+            Err(why) => return Err(why),
+        }
         self.trees = Snapshot::of(trees);
         match self.changes.push(copy) {
             Ok(()) => Ok(()),
