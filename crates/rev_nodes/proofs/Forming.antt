@@ -219,21 +219,21 @@ later e es p found below here = either (eq_by_cmp (slice_cmp nat_cmp) p e.0) ref
 
 module _ (source : List ℕ) (rev : ℕ) (path : List ℕ) (r : ℕ) where
   -- a node of the source's tree is copied to this place
-  record IsCopied (from : Tree) (k : List ℕ) (now : Option TreeNode) : Type 0 where
-    origin : List ℕ
-    found : TreeNode
-    there : at origin from ≡ Some found
-    under : is_under origin source ≡ true
-    to : moved source path origin ≡ k
-    fits : is_path k ≡ true
-    is : now ≡ Some (copied_node rev r origin found)
+  pub record IsCopied (from : Tree) (k : List ℕ) (now : Option TreeNode) : Type 0 where
+    pub origin : List ℕ
+    pub found : TreeNode
+    pub there : at origin from ≡ Some found
+    pub under : is_under origin source ≡ true
+    pub to : moved source path origin ≡ k
+    pub fits : is_path k ≡ true
+    pub is : now ≡ Some (copied_node rev r origin found)
 
   -- nothing is copied to this place
-  record IsAsBefore (from tree : Tree) (k : List ℕ) (now : Option TreeNode) : Type 0 where
-    is : now ≡ at k tree
-    none : (p : List ℕ) → is_some (at p from) ≡ true → is_under p source ≡ true → moved source path p ≡ k → ⊥
+  pub record IsAsBefore (from tree : Tree) (k : List ℕ) (now : Option TreeNode) : Type 0 where
+    pub is : now ≡ at k tree
+    pub none : (p : List ℕ) → is_some (at p from) ≡ true → is_under p source ≡ true → moved source path p ≡ k → ⊥
 
-  abbrev IsEither : Tree → Tree → List ℕ → Option TreeNode → Type 0
+  abbrev pub IsEither : Tree → Tree → List ℕ → Option TreeNode → Type 0
   IsEither from tree k now = IsCopied from k now ⊎ IsAsBefore from tree k now
 
   abbrev there : List ℕ × TreeNode → List ℕ × TreeNode
@@ -277,7 +277,7 @@ module _ (source : List ℕ) (rev : ℕ) (path : List ℕ) (r : ℕ) where
             none_by p false s t some u to = b.none p some u to
 
   -- each place of what a copy makes is one or the other
-  each : (from tree : Tree) → in_order from ≡ true → are_paths (copied source rev path r from) ≡ true → (k : List ℕ) → IsEither from tree k (at k (all_placed (copied source rev path r from) tree))
+  pub each : (from tree : Tree) → in_order from ≡ true → are_paths (copied source rev path r from) ≡ true → (k : List ℕ) → IsEither from tree k (at k (all_placed (copied source rev path r from) tree))
   each [] tree sorted fits k = inr (record { is = refl; none = λ p some under to. absurd (cc some) })
   each (e ∷ es) tree sorted fits k = by_under (is_under e.0 source) refl fits (λ t f. each es t (and_parts (below_all (slice_cmp nat_cmp) e.0 es) (in_order es) sorted).1 f k)
     where

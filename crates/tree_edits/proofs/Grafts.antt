@@ -30,8 +30,10 @@ use Rattle.node_table.proofs.Found.{HasSpot, spot_of, found_as, none_at}
 use Rattle.tree_edits.specs.Edits.{Held, Touched, EditedTree, touched_at, held_in, child_of, or_touched, held_from, held_root, held, held_node, shown, AreShown}
 use Rattle.tree_edits.specs.AreEdits.{IsHeld, AreEdits}
 use Rattle.tree_edits.specs.Hanging.{copied_held, hung_at, Hangs}
+use Rattle.tree_edits.specs.Reading.{Glance, glance_of}
 use Rattle.tree_edits.specs.Applied.{Does}
 use Rattle.tree_edits.proofs.Views.{none_from, over_shown}
+use Rattle.tree_edits.proofs.Glances.{sees_dir, glance_dir}
 use Rattle.tree_edits.proofs.Moved.{walk-append, copied_seen, over_below, over_aside}
 use Rattle.tree_edits.proofs.Short.{paths_fit, path_too_long}
 use Rattle.tree_edits.proofs.Doing.{above_touched, touched_held, root_touched, below_kept, few_done, are_fresh, none_there}
@@ -188,11 +190,12 @@ module _ (rev : ℕ) (source path : List ℕ) (cells : List Cell) (old : EditedT
 -- ---- a copy does what it is to do
 
 -- what stands at the parent tells it
-pub parent_held : {parent : List ℕ} {o : Option (List ℕ)} {place : Option Held} (cells : List Cell) (edits : EditedTree) (path : List ℕ) → o ≡ parent_text path → o ≡ Some parent → is_path parent ≡ true → place ≡ held cells edits (names_in parent) → (b : Bool) → is_dir (option_map held_node place) ≡ b → (tree : Tree) → AreShown cells edits tree → has_parent path tree ≡ b
-parent_held {parent} {o} {place} cells edits path value some one there b dir tree is =
-    ap (λ p. option_map_or (λ q. is_dir (at q tree)) p false) (sym value ∙ some)
-    ∙ ap is_dir (stands_at cells edits parent one place (sym there) tree is)
-    ∙ dir
+pub parent_glanced : (cells : List Cell) (edits : EditedTree) (path parent : List ℕ) → parent_text path ≡ Some parent → is_path parent ≡ true → (glance : Option Glance) → glance ≡ option_map glance_of (held cells edits (names_in parent)) → (tree : Tree) → AreShown cells edits tree → has_parent path tree ≡ sees_dir glance
+parent_glanced cells edits path parent is one glance sees tree shows =
+    ap (λ p. option_map_or (λ q. is_dir (at q tree)) p false) is
+    ∙ ap is_dir (stands_at cells edits parent one (held cells edits (names_in parent)) refl tree shows)
+    ∙ glance_dir (held cells edits (names_in parent))
+    ∙ ap sees_dir (sym sees)
 
 -- whatever tree is shown, a directory stands at the path's parent, or doesn't
 abbrev pub ParentIs : List Cell → EditedTree → List ℕ → Bool → Type 0

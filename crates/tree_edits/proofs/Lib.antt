@@ -1,11 +1,12 @@
 pub mod Lists
-pub mod Copied
 pub mod Moved
 pub mod Short
 pub mod Texts
 pub mod Over
 pub mod Views
 pub mod StepsDown
+pub mod Glances
+pub mod Grown
 pub mod Kept
 pub mod Parents
 pub mod Doing

@@ -11,6 +11,7 @@ use Rattle.rev_nodes.specs.Trees.{TreeNode, Tree, at}
 use Rattle.rev_nodes.specs.Changes.{moved, copied_node, copied, are_paths, all_placed}
 use Rattle.rev_nodes.specs.Formed.{IsFormed}
 use Rattle.rev_nodes.specs.Fitting.{in_order}
+use Rattle.rev_nodes.proofs.Forming.{each, IsCopied, IsAsBefore}
 use Rattle.rev_nodes.proofs.Below.{front_long, apart_front, moved_behind, moved_source}
 use Rattle.rev_nodes.specs.Subtrees.{path_below}
 use Rattle.node_table.specs.Ways.{Name, are_names, is_front}
@@ -18,7 +19,6 @@ use Rattle.node_table.specs.Tables.{cell_at, child_in, Spot, spot_in, below_line
 use Rattle.node_table.proofs.Ways.{path_at-append, names-append, way_under, under-names}
 use Rattle.node_table.proofs.Fronts.{joined, path-joined, some-joined, one-way, front-append}
 use Rattle.node_table.proofs.Growing.{walk_none}
-use Rattle.tree_edits.proofs.Copied.{each, IsCopied, IsAsBefore}
 
 pub walk-append : (cells : List Cell) (spot : Option Spot) (ms ns : List Name) → walk cells spot (ms ++ ns) ≡ walk cells (walk cells spot ms) ns
 walk-append cells spot [] ns = refl

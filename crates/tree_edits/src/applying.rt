@@ -1,15 +1,11 @@
-ghost use Rattle.std.specs.Prelude.{◌≡◌, ◌≤◌, ◌+◌, ℕ, Some, IfOk, OnErr, length};
-ghost use Rattle.std.specs.Option.{option_map};
-ghost use Rattle.node_table.specs.Ways.{names_in};
+ghost use Rattle.std.specs.Prelude.{◌≡◌, ◌≤◌, ◌+◌, ℕ, Some, OnErr, length};
 ghost use Rattle.node_table.specs.Steps.{IsSource};
-ghost use Rattle.tree_edits.specs.Edits.{held};
-ghost use Rattle.tree_edits.specs.Reading.{CanReadEdits};
 ghost use Rattle.tree_edits.specs.AreEdits.{AreEdits};
 ghost use Rattle.tree_edits.specs.Applied.{Applies, Does};
 
 use crate::edits::Edits;
-use dsv_base::{NoMemory, Path, Rev};
-use rev_nodes::{Cell, Change, Kind, NodeId, Unfit};
+use dsv_base::Rev;
+use rev_nodes::{Cell, Change, NodeId, Unfit};
 use std::alloc::Global;
 
 impl Edits {
@@ -61,17 +57,6 @@ impl Edits {
                 None => Err(Unfit::NoNode),
                 Some(from) => self.copy(alloc, cells, from, source, *source_rev, path, rev),
             },
-        }
-    }
-
-    /// The kind of what stands at a path, if anything does. Its one error is want of memory.
-    pub fn kind_at(&self, cells: &[Cell], path: &Path) -> Result<Option<Kind>, NoMemory>
-        requires { CanReadEdits cells.now self.now }
-        ensures { IfOk result (λ kind. kind ≡ option_map (λ here. here.node.kind) (held cells.now self.now (names_in path.now))) }
-    {
-        match self.look(cells, path)? {
-            None => Ok(None),
-            Some(place) => Ok(Some(place.node().kind)),
         }
     }
 }

@@ -110,13 +110,11 @@ impl Edits {
         requires { AreEdits rev cells.now self.old }
         ensures { (from : Option ℕ) → Does rev (told.Mkdir path.now) cells.now self.old self.new from result }
     {
-        match self.look(cells, path)? {
-            Some(_place) => Err(Unfit::Exists),
-            None => {
-                let held = new_held(Kind::Dir, Text::empty(), rev);
-                self.hang(alloc, cells, path, Some(held), rev)
-            }
+        if self.stands(cells, path) {
+            return Err(Unfit::Exists);
         }
+        let held = new_held(Kind::Dir, Text::empty(), rev);
+        self.hang(alloc, cells, path, Some(held), rev)
     }
 
     /// Removes a node and all below it.
@@ -130,7 +128,7 @@ impl Edits {
         requires { AreEdits rev cells.now self.old }
         ensures { (from : Option ℕ) → Does rev (told.Delete path.now) cells.now self.old self.new from result }
     {
-        if !self.stands(cells, path)? {
+        if !self.stands(cells, path) {
             return Err(Unfit::NoNode);
         }
         if path.text() == b"/".as_slice() {

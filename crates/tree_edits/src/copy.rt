@@ -15,7 +15,7 @@ ghost use Rattle.tree_edits.specs.Applied.{Does};
 
 use crate::edits::Edits;
 use crate::held::Held;
-use dsv_base::{NoMemory, Path, Rev};
+use dsv_base::{NoMemory, Path, Rev, parent_text};
 use node_table::{cell_of, depth, fits_below, place_at};
 use rev_nodes::{Cell, Kind, Line, Node, NodeId, Unfit};
 use std::alloc::Global;
@@ -54,18 +54,18 @@ fn is_short(cells: &[Cell], id: NodeId, path: &Path) -> bool
 }
 
 impl Edits {
-    /// Whether a directory stands at a path's parent. Its one error is want of memory.
-    fn has_parent(&self, cells: &[Cell], path: &Path) -> Result<bool, NoMemory>
+    /// Whether a directory stands at a path's parent.
+    fn has_parent(&self, cells: &[Cell], path: &Path) -> bool
         requires { CanReadEdits cells.now self.now }
-        ensures { IfOk result (λ has. (tree : Tree) → AreShown cells.now self.now tree → has_parent path.now tree ≡ has) }
+        ensures { (tree : Tree) → AreShown cells.now self.now tree → has_parent path.now tree ≡ result }
     {
-        match path.parent()? {
-            None => Ok(false),
-            Some(parent) => match self.look(cells, &parent)? {
-                None => Ok(false),
-                Some(place) => match place.node().kind {
-                    Kind::Dir => Ok(true),
-                    Kind::File => Ok(false),
+        match parent_text(path.text()) {
+            None => false,
+            Some(parent) => match self.glance_at(cells, parent) {
+                None => false,
+                Some(glance) => match glance.kind {
+                    Kind::Dir => true,
+                    Kind::File => false,
                 },
             },
         }
@@ -111,10 +111,10 @@ impl Edits {
         requires within { id < length cells.now }
         ensures { Does rev (told.Copy source.now source_rev path.now) cells.now self.old self.new (Some from) result }
     {
-        if self.stands(cells, path)? {
+        if self.stands(cells, path) {
             return Err(Unfit::Exists);
         }
-        if !self.has_parent(cells, path)? {
+        if !self.has_parent(cells, path) {
             return Err(Unfit::NoParent);
         }
         if !is_short(cells, id, path) {

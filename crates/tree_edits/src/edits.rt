@@ -1,4 +1,5 @@
-ghost use Rattle.std.specs.Prelude.{◌≡◌, ◌<◌, [], true, Some, IfOk, IsTrue, is_some, length};
+ghost use Rattle.std.specs.Prelude.{◌≡◌, ◌<◌, [], true, Some, IfOk, IfSome, IsTrue, is_some, length};
+ghost use Rattle.std.specs.Option.{option_map};
 ghost use Rattle.std.specs.FinMap.{is_sorted};
 ghost use Rattle.std.specs.Ordering.{nat_cmp};
 ghost use Rattle.std.specs.Cmp.Lexicographic.{slice_cmp};
@@ -7,11 +8,13 @@ ghost use Rattle.node_table.specs.Ways.{are_names, names_in};
 ghost use Rattle.node_table.specs.Tables.{cell_at};
 ghost use Rattle.tree_edits.specs.Edits.{touched_at, or_touched, held_in, held};
 ghost use Rattle.tree_edits.specs.Rests.{IsRest};
-ghost use Rattle.tree_edits.specs.Reading.{CanRead, CanReadEdits, IsUnder};
+ghost use Rattle.tree_edits.specs.Reading.{CanRead, CanReadEdits, IsUnder, glance_of, sight_of};
 ghost use Rattle.tree_edits.specs.Hanging.{Hangs, hung_in, hung_at, cleared};
 
+use crate::glance::Glance;
 use crate::held::Held;
 use crate::place::Place;
+use crate::sight::Sight;
 use crate::store::Store;
 use crate::touch::Touch;
 use dsv_base::{NoMemory, Path, Rev};
@@ -63,6 +66,24 @@ fn root_held<'a>(
             let line = held.line.copy()?;
             Ok(Some(Place::of(&held.node, line, held.under)))
         }
+    }
+}
+
+/// What is read of what stands at a root.
+fn root_sight(store: &Store, cells: &[Cell], root: NodeId) -> Option<Sight>
+    requires root { root < length cells.now }
+    requires can { CanRead cells.now store.now }
+    ensures sight { result ≡ option_map sight_of (or_touched (touched_at store.now root_text)
+        (Some (held_in cells.now (cell_at cells.now root).line root))) }
+    ensures under { IfSome result (λ sight. IsUnder cells.now sight.under) }
+{
+    match store.get(b"/") {
+        None => {
+            let cell = cell_of(cells, root);
+            Some(Sight::of(&cell.node, cell.line.since, Some(root)))
+        }
+        Some(None) => None,
+        Some(Some(held)) => Some(Sight::of(&held.node, held.line.since, held.under)),
     }
 }
 
@@ -140,15 +161,18 @@ impl Edits {
         }
     }
 
-    /// Whether something stands at a path. Its one error is want of memory.
-    pub fn stands(&self, cells: &[Cell], path: &Path) -> Result<bool, NoMemory>
-        requires { CanReadEdits cells.now self.now }
-        ensures there { IfOk result (λ there. there ≡ is_some (held cells.now self.now (names_in path.now))) }
-        ensures path { IsTrue (is_path path.now) }
+    /// What stands at the path of this text, if anything does, as far as no memory is needed to read it.
+    pub(crate) fn glance_at(&self, cells: &[Cell], text: &[u8]) -> Option<Glance>
+        requires can { CanReadEdits cells.now self.now }
+        requires path { IsTrue (is_path text.now) }
+        ensures { result ≡ option_map glance_of (held cells.now self.now (names_in text.now)) }
     {
-        match self.look(cells, path)? {
-            Some(_place) => Ok(true),
-            None => Ok(false),
+        match root_sight(&self.touched, cells, self.root) {
+            None => None,
+            Some(sight) => match below_root(text) {
+                None => Some(sight.glance),
+                Some(rest) => self.touched.glance_below(cells, text, b"/", &sight, rest),
+            },
         }
     }
 

@@ -1,19 +1,28 @@
-use Rattle.std.proofs.Common.{Option, true, false, sym, ap, ◌∙◌}
-use Rattle.std.specs.Option.{option_map}
-use Rattle.rev_nodes.specs.declared.node.Node.{Node}
-use Rattle.rev_nodes.specs.Trees.{is_dir, is_dir_kind}
-use Rattle.tree_edits.specs.Edits.{Held, held_node}
-use Rattle.tree_edits.proofs.Grafts.{parent_held}
+use Rattle.std.proofs.Common.{sym, ap, ◌∙◌}
+use Rattle.dsv_base.specs.Paths.{parent_text}
+use Rattle.dsv_base.proofs.Joins.{parent_is_path}
+use Rattle.rev_nodes.specs.Trees.{is_dir_kind}
+use Rattle.tree_edits.proofs.Glances.{sees_dir}
+use Rattle.tree_edits.proofs.Grafts.{parent_glanced}
 use Rattle.tree_edits.proofs.edits.Edits.has_parent.Goals as goal
 
-pub returns-in-None-2 : goal.returns-in-None-2
-returns-in-None-2 c = parent_held c.args.cells.now c.args.self.now c.args.path.now c.in_ok-parent.ensures.value c.in-Some.is c.in_ok-look-in-Some.ensures.path c.in_ok-look-in-Some.ensures.place false
-    (ap (λ (o : Option Held). is_dir (option_map held_node o)) c.in-None-2.is)
+pub glance_at-requires-clause-path : goal.glance_at-requires-clause-path
+glance_at-requires-clause-path c = parent_is_path c.args.path.now c.in-Some.parent.now c.text.ensures.path (ap parent_text (sym c.text.ensures.text) ∙ sym c.in-Some.ensures)
+
+pub returns-in-None-glance_at : goal.returns-in-None-glance_at
+returns-in-None-glance_at c =
+    let is = ap parent_text (sym c.text.ensures.text) ∙ sym c.in-Some.ensures in
+    λ tree shows. parent_glanced c.args.cells.now c.args.self.now c.args.path.now c.in-Some.parent.now is (parent_is_path c.args.path.now c.in-Some.parent.now c.text.ensures.path is) c.glance_at.result c.glance_at.ensures tree shows
+    ∙ ap sees_dir c.in-None-glance_at.is
 
 pub returns-in-Dir : goal.returns-in-Dir
-returns-in-Dir c = parent_held c.args.cells.now c.args.self.now c.args.path.now c.in_ok-parent.ensures.value c.in-Some.is c.in_ok-look-in-Some.ensures.path c.in_ok-look-in-Some.ensures.place true
-    (ap (λ (o : Option Held). is_dir (option_map held_node o)) c.in-Some-2.is ∙ ap is_dir_kind (ap (λ (n : Node). n.kind) (sym c.node.ensures) ∙ c.in-Dir.is))
+returns-in-Dir c =
+    let is = ap parent_text (sym c.text.ensures.text) ∙ sym c.in-Some.ensures in
+    λ tree shows. parent_glanced c.args.cells.now c.args.self.now c.args.path.now c.in-Some.parent.now is (parent_is_path c.args.path.now c.in-Some.parent.now c.text.ensures.path is) c.glance_at.result c.glance_at.ensures tree shows
+    ∙ ap sees_dir c.in-Some-glance_at.is ∙ ap is_dir_kind c.in-Dir.is
 
-pub returns : goal.returns
-returns c = parent_held c.args.cells.now c.args.self.now c.args.path.now c.in_ok-parent.ensures.value c.in-Some.is c.in_ok-look-in-Some.ensures.path c.in_ok-look-in-Some.ensures.place false
-    (ap (λ (o : Option Held). is_dir (option_map held_node o)) c.in-Some-2.is ∙ ap is_dir_kind (ap (λ (n : Node). n.kind) (sym c.node.ensures) ∙ c.in-File.is))
+pub returns-in-File : goal.returns-in-File
+returns-in-File c =
+    let is = ap parent_text (sym c.text.ensures.text) ∙ sym c.in-Some.ensures in
+    λ tree shows. parent_glanced c.args.cells.now c.args.self.now c.args.path.now c.in-Some.parent.now is (parent_is_path c.args.path.now c.in-Some.parent.now c.text.ensures.path is) c.glance_at.result c.glance_at.ensures tree shows
+    ∙ ap sees_dir c.in-Some-glance_at.is ∙ ap is_dir_kind c.in-File.is
