@@ -34,7 +34,7 @@ get_or-any (x ∷ xs) zero d e h = refl
 get_or-any (x ∷ xs) (suc i) d e h = get_or-any xs i d e (omega arith)
 
 module _ (entries : List Entry) (name : Name) (sorted : T (entries_rise entries)) where
-  rises : IsNonDecreasingBy (λ (e : Entry). ordering_index (slice_cmp nat_cmp e.name name)) entries
+  pub rises : IsNonDecreasingBy (λ (e : Entry). ordering_index (slice_cmp nat_cmp e.name name)) entries
   rises = IsNonDecreasingBy-from_default (λ (e : Entry). ordering_index (slice_cmp nat_cmp e.name name)) entries no_entry (λ i j le within. elim (cases_lt i j) [
     | inl before ↦ rw (get_or-pairs entries i no_entry, get_or-pairs entries j no_entry) at (comparisons_rise (slice_cmp nat_cmp) nat_list_cmp_total name (map pair entries) (pair no_entry) sorted i j before (omega (arith, length-pairs entries)))
     | inr after ↦ (let same : i ≡ j = omega arith in rw same (omega arith))

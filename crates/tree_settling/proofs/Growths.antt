@@ -1,5 +1,5 @@
 -- What edits show where nothing was touched, and what stays as the table grows.
-use Rattle.std.proofs.Common.{◌≡◌, ℕ, zero, suc, ◌-◌, ◌≤◌, Bool, true, false, List, [], ◌∷◌, ◌++◌, Option, None, Some, length, refl, sym, ap, ◌∙◌, arith, length-append}
+use Rattle.std.proofs.Common.{◌≡◌, ℕ, ◌<◌, Bool, true, false, List, [], ◌∷◌, ◌++◌, Option, None, Some, length, refl, sym, ap, ◌∙◌, arith, length-append}
 use Rattle.std.specs.Prelude.{if◌then◌else◌}
 use Rattle.std.specs.Option.{option_map}
 use Rattle.std.specs.Str.{bytes_eq}
@@ -10,8 +10,9 @@ use Rattle.rev_nodes.specs.declared.cell.Cell.{Cell}
 use Rattle.rev_nodes.specs.declared.line.Line.{Line}
 use Rattle.rev_nodes.proofs.Below.{differ, same_from}
 use Rattle.node_table.specs.Ways.{Name, are_names}
-use Rattle.node_table.specs.Tables.{cell_at, child_in, spot_in, below_line, spot_node, seen, IsSoundTable}
-use Rattle.node_table.proofs.Growing.{cell_at-kept, seen-kept, walk_none}
+use Rattle.node_table.specs.Tables.{cell_at, child_in, spot_in, below_line, spot_node, height_over, seen, IsSoundTable}
+use Rattle.node_table.proofs.EntriesFound.{own_entry}
+use Rattle.node_table.proofs.Growing.{height_over-kept, cell_at-kept, seen-kept, walk_none}
 use Rattle.node_table.proofs.Ways.{not_root, some_text, join-front}
 use Rattle.tree_edits.specs.declared.held.Held.{Held}
 use Rattle.tree_edits.specs.Edits.{Touched, touched_at, held_in, child_of, or_touched, held_from, held_node}
@@ -97,8 +98,8 @@ module _ (cells : List Cell) (touched : Touched) (all : List Cell) (sound : IsSo
   agrees-kept path (Some (Some here)) (Some None) h = absurd h
   agrees-kept path (Some (Some here)) (Some (Some id)) h = made-kept path here id h
 
--- the cells behind those of the table
-pub cell_at-behind : (cells more : List Cell) (id : ℕ) → length cells ≤ id → cell_at (cells ++ more) id ≡ cell_at more (id - length cells)
-cell_at-behind [] more id h = ap (cell_at more) (omega arith)
-cell_at-behind (c ∷ cells) more zero h = absurd (omega (arith, h))
-cell_at-behind (c ∷ cells) more (suc id) h = cell_at-behind cells more id (omega (arith, h)) ∙ ap (cell_at more) (omega arith)
+-- the height of a number of the table is that of its entries, also behind more cells
+pub kept_height : (cells more : List Cell) (sound : IsSoundTable cells) (id : ℕ) → id < length cells → (cell_at cells id).height ≡ height_over (cells ++ more) (cell_at cells id).entries
+kept_height cells more sound id within =
+    (sound id).height ∙ sym (height_over-kept cells more (cell_at cells id).entries (λ k d less.
+    let low = ((sound id).children _ _ (own_entry (cell_at cells id).entries (sound id).sorted k d less)).lower in omega (arith, low, within)))

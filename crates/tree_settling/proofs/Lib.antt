@@ -1,8 +1,9 @@
 pub mod Rising
 pub mod Merges
+pub mod Cuttings
+pub mod Raised
 pub mod Lists
 pub mod Scans
 pub mod Growths
 pub mod Places
 pub mod Turns
-pub mod TreesShown

@@ -189,6 +189,9 @@ zipped-finds (c ∷ cs) es h rise n = child-append n (entries_before c.0 es) (en
 
 -- ---- for the code
 
+pub behind_rises : (m : Name) (es rest : List Entry) → rest ≡ entries_behind m es → IsTrue (is_sorted (slice_cmp nat_cmp) (map pair es)) → IsTrue (is_sorted (slice_cmp nat_cmp) (map pair rest))
+behind_rises m es rest is rise = subst (λ xs. IsTrue (is_sorted (slice_cmp nat_cmp) (map pair xs))) (sym is) (from_T _ (behind-rise m es (T_from _ rise)))
+
 pub zipped_merged : (cs : AllMade) (es all : List Entry) → IsTrue (is_sorted (slice_cmp nat_cmp) cs) → IsTrue (is_sorted (slice_cmp nat_cmp) (map pair es)) → all ≡ zipped cs es → AreMerged cs es all
 zipped_merged cs es all h rise is = subst (λ xs. AreMerged cs es xs) (sym is) (record {
   sorted = from_T _ (zipped-rise cs es (T_from _ h) (T_from _ rise));

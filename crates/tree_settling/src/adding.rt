@@ -1,15 +1,13 @@
-ghost use Rattle.std.specs.Prelude.{◌≡◌, ◌<◌, ◌+◌, ◌++◌, ◌∷◌, [], ℕ, IfOk, OnOk, Some, length, reverse};
+ghost use Rattle.std.specs.Prelude.{◌≡◌, ◌<◌, ◌+◌, ℕ, IfOk, OnOk, Some, length, reverse};
 ghost use Rattle.node_table.specs.Tables.{IsSoundTable};
 ghost use Rattle.tree_settling.specs.Listed.{AreBehind};
-ghost use Rattle.tree_settling.specs.Settled.{IsCellOf, IsAdded, entries_under};
+ghost use Rattle.tree_settling.specs.Settled.{IsCellOf, IsAdded};
 
-use crate::heights::height_among;
+use crate::inside::{Inside, settled_inside};
 use crate::listing::listed;
 use crate::made::Made;
-use crate::merging::merged;
 use dsv_base::NoMemory;
-use node_table::cell_of;
-use rev_nodes::{Cell, Entry, NodeId};
+use rev_nodes::{Cell, NodeId};
 use std::alloc::Global;
 use tree_edits::Held;
 
@@ -49,25 +47,14 @@ fn cell_for(
     ensures { IfOk result (λ cell. IsCellOf cells.now more.now (reverse made.now) path.now held.now cell) }
 {
     let names = listed(alloc, path, made)?;
-    let entries = merged(alloc, entries_under(cells, held), names.as_slice())?;
-    let height = height_among(cells, more, entries.get());
+    let inside = settled_inside(alloc, cells, more, names.as_slice(), held)?;
     let node = held.node.marked(held.node.created)?;
     let line = held.line.copy()?;
+    let Inside { entries, height } = inside;
     Ok(Cell {
         node,
         line,
         entries,
         height,
     })
-}
-
-/// What the table has in what stands at a place.
-fn entries_under<'a>(cells: &'a [Cell], held: &Held) -> &'a [Entry]
-    requires { (id : ℕ) → held.now.under ≡ Some id → id < length cells.now }
-    ensures { result.now ≡ entries_under cells.now held.now }
-{
-    match held.under {
-        None => &[],
-        Some(id) => cell_of(cells, id).entries.get(),
-    }
 }

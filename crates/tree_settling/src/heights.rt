@@ -17,7 +17,7 @@ pub(crate) fn height_among(cells: &[Cell], more: &[Cell], entries: &[Entry]) -> 
 }
 
 /// The height of a cell of the table or behind it.
-fn height_at(cells: &[Cell], more: &[Cell], id: NodeId) -> Height
+pub(crate) fn height_at(cells: &[Cell], more: &[Cell], id: NodeId) -> Height
     ensures { result ≡ (cell_at (cells.now ++ more.now) id).height }
 {
     let index = id.get() as usize;

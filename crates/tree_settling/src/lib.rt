@@ -2,10 +2,13 @@
 #![tactic(auto)]
 
 mod adding;
+mod cutting;
 mod heights;
+mod inside;
 mod listing;
 mod made;
 mod merging;
+mod raising;
 mod settling;
 
 pub use settling::settle;

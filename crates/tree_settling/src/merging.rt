@@ -1,33 +1,47 @@
-ghost use Rattle.std.specs.Prelude.{◌≡◌, ◌++◌, IfOk, OnOk, IsTrue, map};
+ghost use Rattle.std.specs.Prelude.{◌≡◌, ◌++◌, IfOk, IfSome, OnOk, IsTrue};
 ghost use Rattle.std.specs.FinMap.{is_sorted};
+ghost use Rattle.std.specs.Option.{option_copied};
 ghost use Rattle.std.specs.Ordering.{nat_cmp};
 ghost use Rattle.std.specs.Cmp.Lexicographic.{slice_cmp};
-ghost use Rattle.node_table.specs.Tables.{pair};
-ghost use Rattle.tree_settling.specs.Merged.{AreMerged, entries_before, entries_behind, entry_made};
+ghost use Rattle.node_table.specs.Tables.{entries_rise, height_over};
+ghost use Rattle.tree_settling.specs.Merged.{AreMerged, entry_made};
 
+use crate::cutting::{Cut, cut_at_name};
+use crate::inside::Inside;
 use crate::made::Made;
+use crate::raising::{height_by, told_height};
 use dsv_base::NoMemory;
-use rev_nodes::{Entry, Shared};
+use rev_nodes::{Cell, Entry, Shared};
 use std::alloc::Global;
-use std::cmp::Ordering;
 
-/// The entries with what was made of some names. Both stand in byte order of the names.
+/// What stands in a place with what was made of some names. Both stand in byte order of the names.
+/// Each name that stays is held together with the old entry's.
 pub(crate) fn merged(
     alloc: Global,
-    entries: &[Entry],
+    cells: &[Cell],
+    more: &[Cell],
+    kept: &Inside,
     changes: &[Made],
-) -> Result<Shared<Entry>, NoMemory>
-    requires old { IsTrue (is_sorted (slice_cmp nat_cmp) (map pair entries.now)) }
+) -> Result<Inside, NoMemory>
+    requires old { IsTrue (entries_rise kept.now.entries) }
+    requires height { kept.now.height ≡ height_over (cells.now ++ more.now) kept.now.entries }
     requires new { IsTrue (is_sorted (slice_cmp nat_cmp) changes.now) }
-    ensures { IfOk result (λ all. AreMerged changes.now entries.now all) }
+    ensures merged { IfOk result (λ all. AreMerged changes.now kept.now.entries all.entries) }
+    ensures height { IfOk result (λ all. all.height ≡ height_over (cells.now ++ more.now) all.entries) }
 {
-    let mut all = Vec::with_capacity(alloc, entries.len())?;
-    let mut rest = entries;
+    let mut rest = kept.entries.get();
+    let mut height = Some(kept.height);
+    let mut all = Vec::with_capacity(alloc, rest.len().saturating_add(changes.len()))?;
     'changes: for change in changes {
-        rest = merge_one(alloc, &mut all, rest, change)?;
+        let cut = cut_at_name(rest, change.at());
+        height = height_by(cells, more, height, cut.here, change);
+        merge_one(alloc, &mut all, &cut, change)?;
+        rest = cut.behind;
     }
     copy_all(&mut all, rest)?;
-    Shared::of(all)
+    let height = told_height(cells, more, height, all.as_slice());
+    let entries = Shared::of(all)?;
+    Ok(Inside { entries, height })
 }
 
 fn copy_entry(entry: &Entry) -> Result<Entry, NoMemory>
@@ -46,55 +60,43 @@ fn copy_all(all: &mut Vec<Entry>, entries: &[Entry]) -> Result<(), NoMemory>
     Ok(())
 }
 
-/// Adds the entries before a name, and what was made of it; gives those behind it.
-fn merge_one<'a>(
+/// Adds the entries before a name, and what was made of it.
+fn merge_one(alloc: Global, all: &mut Vec<Entry>, cut: &Cut, change: &Made) -> Result<(), NoMemory>
+    requires { IfSome (option_copied cut.now.here) (λ e. e.name ≡ change.now.0) }
+    ensures { OnOk result (all.new.items ≡
+        (all.old.items ++ cut.now.before.now) ++ entry_made change.now.0 change.now.1) }
+{
+    copy_all(all, cut.before)?;
+    push_made(alloc, all, change, cut.here)
+}
+
+/// Adds the entry of a name, where something was made of it. `here` is its old entry, if it had one.
+fn push_made(
     alloc: Global,
     all: &mut Vec<Entry>,
-    entries: &'a [Entry],
     change: &Made,
-) -> Result<&'a [Entry], NoMemory>
-    ensures all { OnOk result (all.new.items ≡
-        (all.old.items ++ entries_before change.now.0 entries.now) ++ entry_made change.now.0 change.now.1) }
-    ensures rest { IfOk result (λ rest. rest.now ≡ entries_behind change.now.0 entries.now) }
-{
-    let rest = copy_before(all, entries, change.at())?;
-    push_made(alloc, all, change)?;
-    Ok(rest)
-}
-
-/// Adds the entries before a name, and gives those behind it.
-fn copy_before<'a>(
-    all: &mut Vec<Entry>,
-    entries: &'a [Entry],
-    name: &[u8],
-) -> Result<&'a [Entry], NoMemory>
-    ensures all { OnOk result (all.new.items ≡ all.old.items ++ entries_before name.now entries.now) }
-    ensures rest { IfOk result (λ rest. rest.now ≡ entries_behind name.now entries.now) }
-{
-    let mut rest = entries;
-    'front: while let [first, after @ ..] = rest {
-        match name.cmp(first.name.get()) {
-            Ordering::Less => return Ok(rest),
-            Ordering::Equal => return Ok(after),
-            Ordering::Greater => {
-                all.push(copy_entry(first)?)?;
-                rest = after;
-            }
-        }
-    }
-    Ok(rest)
-}
-
-/// Adds the entry of a name, where something was made of it.
-fn push_made(alloc: Global, all: &mut Vec<Entry>, change: &Made) -> Result<(), NoMemory>
+    here: Option<&Entry>,
+) -> Result<(), NoMemory>
+    requires { IfSome (option_copied here) (λ e. e.name ≡ change.now.0) }
     ensures { OnOk result (all.new.items ≡ all.old.items ++ entry_made change.now.0 change.now.1) }
 {
     match change.id() {
         None => Ok(()),
         Some(id) => {
-            let name = Shared::of(Vec::from_slice(alloc, change.at())?)?;
+            let name = name_held(alloc, change.at(), here)?;
             all.push(Entry { name, id })?;
             Ok(())
         }
+    }
+}
+
+/// A name, which is held together with that of an entry that has it, if there is one.
+fn name_held(alloc: Global, name: &[u8], here: Option<&Entry>) -> Result<Shared<u8>, NoMemory>
+    requires { IfSome (option_copied here) (λ e. e.name ≡ name.now) }
+    ensures { IfOk result (λ held. held ≡ name.now) }
+{
+    match here {
+        Some(entry) => entry.name.share(),
+        None => Shared::of(Vec::from_slice(alloc, name)?),
     }
 }
