@@ -151,8 +151,8 @@ formed_more path node tree rise free has one formed = record {
 
 -- why a new node fits
 pub record IsFree (path : List ℕ) (tree : Tree) : Type 0 where
-  free : is_some (at path tree) ≡ false
-  has : has_parent path tree ≡ true
+  pub free : is_some (at path tree) ≡ false
+  pub has : has_parent path tree ≡ true
 
 pub free_from : (path : List ℕ) (tree : Tree) → unfit_new path tree ≡ None → IsFree path tree
 free_from path tree h = either (is_some (at path tree)) (has_parent path tree) refl refl h
@@ -300,15 +300,15 @@ module _ (path : List ℕ) (tree : Tree) (one : is_path path ≡ true) (other : 
       either true e go dir = let less = cut_shorter rest e in go (omega arith) (some_dir (at (path ++ 47 ∷ before_last_slash rest) tree) dir)
       either false e go dir = none_is_no_dir (at path tree) free dir
 
-  absent : (rest : List ℕ) → is_some (at (path ++ 47 ∷ rest) tree) ≡ true → ⊥
+  pub absent : (rest : List ℕ) → is_some (at (path ++ 47 ∷ rest) tree) ≡ true → ⊥
   absent rest some = absent_up_to (suc (length rest)) rest (omega arith) some
 
 -- where a copy puts what is under its source
 pub record IsMoved (source path p : List ℕ) : Type 0 where
-  apart : bytes_eq p source ≡ false
-  rest : List ℕ
-  is : p ≡ front_of source ++ 47 ∷ rest
-  to : moved source path p ≡ path ++ 47 ∷ rest
+  pub apart : bytes_eq p source ≡ false
+  pub rest : List ℕ
+  pub is : p ≡ front_of source ++ 47 ∷ rest
+  pub to : moved source path p ≡ path ++ 47 ∷ rest
 
 abbrev pub Goes : List ℕ → List ℕ → List ℕ → Type 0
 Goes source path p = (p ≡ source) ⊎ IsMoved source path p

@@ -3,6 +3,7 @@ pub mod Below
 pub mod Marks
 pub mod Forming
 pub mod NodesSound
+pub mod Drafting
 pub mod EntryNames
 pub mod Subtrees
 pub mod Rows

@@ -83,6 +83,13 @@ keys_found (e ∷ es) = All-cons (λ (place : List ℕ × TreeNode). is_some (at
 pub at_paths : (tree : Tree) → IsFormed tree → All StandsAtPath tree
 at_paths tree formed = All-weaker (λ (place : List ℕ × TreeNode). is_some (at place.0 tree) ≡ true) StandsAtPath (λ place h. formed.paths place.0 h) tree (keys_found tree)
 
+-- ---- changes in order
+
+-- where all changes fit, so does the first
+pub went_on : {X : Type 0} (why : Option Unfit) (index : ℕ) (then_ : Result X (ℕ × Unfit)) (x : X) → unless why index then_ ≡ Ok x → (why ≡ None) × (then_ ≡ Ok x)
+went_on None index then_ x e = (refl, e)
+went_on (Some why) index then_ x e = absurd (cc)
+
 -- ---- steps
 
 module _ (r : ℕ) where
@@ -181,10 +188,6 @@ module _ (r : ℕ) where
         sound-marked path _ (sound-all_placed (copied source rev path r (tree_at trees rev)) tree (sound-copied source rev path (tree_at trees rev) below paths (sources rev)) all)
 
     -- ---- changes in order
-
-    went_on : {X : Type 0} (why : Option Unfit) (index : ℕ) (then_ : Result X (ℕ × Unfit)) (x : X) → unless why index then_ ≡ Ok x → (why ≡ None) × (then_ ≡ Ok x)
-    went_on None index then_ x e = (refl, e)
-    went_on (Some why) index then_ x e = absurd (cc)
 
     pub sound_changes : ((rev : ℕ) → rev < length trees → IsFormed (tree_at trees rev)) → (changes : List Change) (index : ℕ) (tree new : Tree) → list_all is_sound_change changes ≡ true → apply_from index changes trees tree r ≡ Ok new → All Sound tree → All Sound new
     unfolding apply_from

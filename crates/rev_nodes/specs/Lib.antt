@@ -10,3 +10,4 @@ pub mod Fitting
 pub mod Commits
 pub mod SoundNodes
 pub mod Subtrees
+pub mod Drafts

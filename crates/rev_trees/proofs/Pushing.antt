@@ -2,6 +2,7 @@
 use Rattle.std.proofs.Common.{◌≡◌, ℕ, ◌*◌, ◌-◌, ◌≤◌, ◌<◌, List, [], ◌∷◌, ◌++◌, Ok, Err, length, map, Some, sym, ap, subst, ◌∙◌, inl, inr, arith, length-append}
 use Rattle.std.specs.List.{All}
 use Rattle.std.proofs.lemmas.Bool.{cases_lt}
+use Rattle.std.proofs.lemmas.List.{get_or_append_left, length_push}
 use Rattle.std.proofs.lemmas.List.Elements.{All-nil}
 use Rattle.rev_nodes.specs.declared.cell.Cell.{Cell}
 use Rattle.rev_nodes.specs.declared.changed.Changed.{Changed}
@@ -26,9 +27,9 @@ use Rattle.rev_trees.specs.declared.push_fault.PushFault.TheVariants as faults
 use Rattle.rev_trees.specs.declared.revision.KeptRevision.{KeptRevision}
 use Rattle.rev_trees.specs.declared.next.NextRevision.{NextRevision}
 use Rattle.rev_trees.specs.Readies.{ReadyRevision, IsReadyOn, IsNext, Prepares, Pushes, revisions_of}
-use Rattle.rev_trees.specs.Kept.{tree_or_none, youngest, after, trees_in, seen_revision, seen_revisions, forest_of, kept_at, IsKept, AreKept, tree_made, ready_of, IsReady}
+use Rattle.rev_trees.specs.Kept.{tree_or_none, youngest, after, trees_in, seen_revision, seen_revisions, forest_of, no_kept_revision, kept_at, IsKept, AreKept, tree_made, ready_of, IsReady}
 use Rattle.rev_trees.specs.Made.{IsMade, Makes}
-use Rattle.rev_trees.proofs.Replay.{trees-push, trees-length, length-push, tree_at-push, tree_at-last, kept_at-push, kept_at-last}
+use Rattle.rev_trees.proofs.Replay.{trees-push, trees-length, at-last}
 use Rattle.rev_trees.proofs.Viewed.{in-push, in-kept, length-of, nodes-of, room-of, node_room-of, youngest-is, after-is}
 
 -- ---- a longer table shows the same
@@ -58,8 +59,8 @@ module _ (cells more : List Cell) (sound : IsSoundTable cells) where
 -- the revisions with one more
 kept_more : (cells more : List Cell) (rs : List KeptRevision) (r : KeptRevision) (tree : Tree) → AreKept cells rs → IsSoundTable (cells ++ more) → IsKept (cells ++ more) (length rs) tree r.root r.commit → tree ≡ after (trees_in rs) r.commit → length rs ≤ 2000000000 → AreKept (cells ++ more) (rs ++ r ∷ [])
 kept_more cells more rs r tree kept sound new is few = record {
-  some = omega (arith, length-push rs r);
-  few = omega (arith, length-push rs r, few);
+  some = omega (arith, length_push rs r);
+  few = omega (arith, length_push rs r, few);
   sound = sound;
   kept = all;
 }
@@ -69,21 +70,21 @@ kept_more cells more rs r tree kept sound new is few = record {
 
     old : (rev : ℕ) → rev < length rs → IsKept (cells ++ more) rev (tree_at (trees_in (rs ++ r ∷ [])) rev) (kept_at (rs ++ r ∷ []) rev).root (kept_at (rs ++ r ∷ []) rev).commit
     old rev h =
-        let t : tree_at (trees_in (rs ++ r ∷ [])) rev ≡ tree_at (trees_in rs) rev = ap (λ (ts : List Tree). tree_at ts rev) push ∙ tree_at-push (trees_in rs) (after (trees_in rs) r.commit) rev (let n = trees-length rs in omega (arith, n, h)) in
-        subst (λ (q : KeptRevision). IsKept (cells ++ more) rev (tree_at (trees_in (rs ++ r ∷ [])) rev) q.root q.commit) (sym (kept_at-push rs r rev h))
+        let t : tree_at (trees_in (rs ++ r ∷ [])) rev ≡ tree_at (trees_in rs) rev = ap (λ (ts : List Tree). tree_at ts rev) push ∙ get_or_append_left (trees_in rs) (after (trees_in rs) r.commit ∷ []) [] rev (let n = trees-length rs in omega (arith, n, h)) in
+        subst (λ (q : KeptRevision). IsKept (cells ++ more) rev (tree_at (trees_in (rs ++ r ∷ [])) rev) q.root q.commit) (sym (get_or_append_left rs (r ∷ []) no_kept_revision rev h))
         (subst (λ (q : Tree). IsKept (cells ++ more) rev q (kept_at rs rev).root (kept_at rs rev).commit) (sym t)
         (kept_later cells more kept.sound rev (tree_at (trees_in rs) rev) (kept_at rs rev).root (kept_at rs rev).commit (kept.kept rev h)))
 
     last : IsKept (cells ++ more) (length rs) (tree_at (trees_in (rs ++ r ∷ [])) (length rs)) (kept_at (rs ++ r ∷ []) (length rs)).root (kept_at (rs ++ r ∷ []) (length rs)).commit
     last =
-        let t : tree_at (trees_in (rs ++ r ∷ [])) (length rs) ≡ tree = ap (λ (ts : List Tree). tree_at ts (length rs)) push ∙ ap (tree_at (trees_in rs ++ after (trees_in rs) r.commit ∷ [])) (sym (trees-length rs)) ∙ tree_at-last (trees_in rs) (after (trees_in rs) r.commit) ∙ sym is in
-        subst (λ (q : KeptRevision). IsKept (cells ++ more) (length rs) (tree_at (trees_in (rs ++ r ∷ [])) (length rs)) q.root q.commit) (sym (kept_at-last rs r))
+        let t : tree_at (trees_in (rs ++ r ∷ [])) (length rs) ≡ tree = ap (λ (ts : List Tree). tree_at ts (length rs)) push ∙ ap (tree_at (trees_in rs ++ after (trees_in rs) r.commit ∷ [])) (sym (trees-length rs)) ∙ at-last (trees_in rs) (after (trees_in rs) r.commit) [] ∙ sym is in
+        subst (λ (q : KeptRevision). IsKept (cells ++ more) (length rs) (tree_at (trees_in (rs ++ r ∷ [])) (length rs)) q.root q.commit) (sym (at-last rs r no_kept_revision))
         (subst (λ (q : Tree). IsKept (cells ++ more) (length rs) q r.root r.commit) (sym t) new)
 
     all : (rev : ℕ) → rev < length (rs ++ r ∷ []) → IsKept (cells ++ more) rev (tree_at (trees_in (rs ++ r ∷ [])) rev) (kept_at (rs ++ r ∷ []) rev).root (kept_at (rs ++ r ∷ []) rev).commit
     all rev h = elim (cases_lt rev (length rs)) [
       | inl low ↦ old rev low
-      | inr high ↦ (let n = length-push rs r in let same : length rs ≡ rev = omega (arith, h, high, n) in subst (λ (n : ℕ). IsKept (cells ++ more) n (tree_at (trees_in (rs ++ r ∷ [])) n) (kept_at (rs ++ r ∷ []) n).root (kept_at (rs ++ r ∷ []) n).commit) same last)
+      | inr high ↦ (let n = length_push rs r in let same : length rs ≡ rev = omega (arith, h, high, n) in subst (λ (n : ℕ). IsKept (cells ++ more) n (tree_at (trees_in (rs ++ r ∷ [])) n) (kept_at (rs ++ r ∷ []) n).root (kept_at (rs ++ r ∷ []) n).commit) same last)
     ]
 
 -- ---- a revision that is ready becomes one

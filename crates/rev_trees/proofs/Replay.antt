@@ -1,9 +1,10 @@
 -- The trees of revisions, as their commits make them.
-use Rattle.std.proofs.Common.{◌≡◌, ℕ, zero, suc, ◌+◌, ◌<◌, ◌≤◌, List, [], ◌∷◌, ◌++◌, length, refl, ap, ◌∙◌, arith, length-append}
+use Rattle.std.proofs.Common.{◌≡◌, suc, ◌+◌, ◌≤◌, List, [], ◌∷◌, ◌++◌, length, refl, ap, ◌∙◌, arith, length-append}
+use Rattle.std.specs.Prelude.{slice_index_or}
 use Rattle.rev_nodes.specs.declared.commit.Commit.{Commit}
-use Rattle.rev_nodes.specs.Trees.{Tree, first_tree, tree_at}
+use Rattle.rev_nodes.specs.Trees.{Tree, first_tree}
 use Rattle.rev_trees.specs.declared.revision.KeptRevision.{KeptRevision}
-use Rattle.rev_trees.specs.Kept.{after, trees_from, commits_of, trees_in, kept_at}
+use Rattle.rev_trees.specs.Kept.{after, trees_from, commits_of, trees_in}
 
 from-push : (trees : List Tree) (commits : List Commit) (commit : Commit) → trees_from trees (commits ++ commit ∷ []) ≡ trees_from trees commits ++ after (trees_from trees commits) commit ∷ []
 from-push trees [] commit = refl
@@ -35,25 +36,7 @@ trees-length (r ∷ rs) =
     let n = commits-length rs in
     omega (arith, e, n)
 
-pub length-push : {X : Type 0} (xs : List X) (x : X) → length (xs ++ x ∷ []) ≡ length xs + 1
-length-push [] x = refl
-length-push (y ∷ xs) x = let e = length-push xs x in omega (arith, e)
-
--- what stands before the last, and the last
-pub tree_at-push : (trees : List Tree) (tree : Tree) (rev : ℕ) → rev < length trees → tree_at (trees ++ tree ∷ []) rev ≡ tree_at trees rev
-tree_at-push [] tree rev h = absurd (omega arith)
-tree_at-push (t ∷ ts) tree zero h = refl
-tree_at-push (t ∷ ts) tree (suc rev) h = tree_at-push ts tree rev (omega arith)
-
-pub tree_at-last : (trees : List Tree) (tree : Tree) → tree_at (trees ++ tree ∷ []) (length trees) ≡ tree
-tree_at-last [] tree = refl
-tree_at-last (t ∷ ts) tree = tree_at-last ts tree
-
-pub kept_at-push : (rs : List KeptRevision) (r : KeptRevision) (rev : ℕ) → rev < length rs → kept_at (rs ++ r ∷ []) rev ≡ kept_at rs rev
-kept_at-push [] r rev h = absurd (omega arith)
-kept_at-push (q ∷ rs) r zero h = refl
-kept_at-push (q ∷ rs) r (suc rev) h = kept_at-push rs r rev (omega arith)
-
-pub kept_at-last : (rs : List KeptRevision) (r : KeptRevision) → kept_at (rs ++ r ∷ []) (length rs) ≡ r
-kept_at-last [] r = refl
-kept_at-last (q ∷ rs) r = kept_at-last rs r
+-- the last one
+pub at-last : {X : Type 0} (xs : List X) (x d : X) → slice_index_or (xs ++ x ∷ []) (length xs) d ≡ x
+at-last [] x d = refl
+at-last (y ∷ xs) x d = at-last xs x d

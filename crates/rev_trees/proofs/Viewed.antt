@@ -80,11 +80,11 @@ module _ (name uuid : List ℕ) (cells : List Cell) (rs : List KeptRevision) (ro
   pub trees-are : trees_of (map without_numbers forest.revisions) ≡ trees_in rs
   trees-are = ap (λ (f : Forest). trees_of (map without_numbers f.revisions)) (sym is) ∙ in-trees cells rs (trees_in rs) (trees-length rs)
 
-count-plain : (rs : List ForestRevision) → length (map without_numbers rs) ≡ length rs
+pub count-plain : (rs : List ForestRevision) → length (map without_numbers rs) ≡ length rs
 count-plain [] = refl
 count-plain (r ∷ rs) = ap suc (count-plain rs)
 
-count-trees : (rs : List Revision) → length (trees_of rs) ≡ length rs
+pub count-trees : (rs : List Revision) → length (trees_of rs) ≡ length rs
 count-trees [] = refl
 count-trees (r ∷ rs) = ap suc (count-trees rs)
 

@@ -8,7 +8,7 @@ ghost use Rattle.tree_edits.specs.Edits.{AreShown};
 ghost use Rattle.tree_edits.specs.AreEdits.{AreEdits};
 ghost use Rattle.change_table.specs.ChangeTables.{deleted, source_of};
 ghost use Rattle.rev_nodes.specs.declared.mark.Mark.TheVariants as marks;
-ghost use Rattle.rev_trees.specs.ChangedKinds.{kind_before, kind_after, kept_kind, changed_kind, row_between};
+ghost use Rattle.rev_trees.specs.ChangedKinds.{kind_before, kept_kind, changed_kind, row_between};
 
 use change_table::ChangeTable;
 use dsv_base::{List, NoMemory, Path};
@@ -56,7 +56,7 @@ fn changed_in(
     'rows: for row in table.rows(alloc)? {
         let path = row.path();
         let was = kind_before(cells, root, path);
-        let now = kind_after(edits, cells, path)?;
+        let now = edits.kind_at(cells, path);
         if let Some(changed) = changed_at(table, was, now, path)? {
             list.push(changed)?;
         }
@@ -73,17 +73,6 @@ fn kind_before(cells: &[Cell], root: NodeId, path: &Path) -> Option<Kind>
     match place_at(cells, root, path) {
         None => None,
         Some(id) => Some(cell_of(cells, id).node.kind),
-    }
-}
-
-/// The kind of what edits show at a path.
-fn kind_after(edits: &Edits, cells: &[Cell], path: &Path) -> Result<Option<Kind>, NoMemory>
-    requires { (rev : ℕ) × AreEdits rev cells.now edits.now }
-    ensures { IfOk result (λ kind. kind ≡ kind_after cells.now edits.now path.now) }
-{
-    match edits.look(cells, path)? {
-        None => Ok(None),
-        Some(place) => Ok(Some(place.node().kind)),
     }
 }
 

@@ -1,15 +1,14 @@
-ghost use Rattle.std.specs.Prelude.{◌≡◌, ◌≤◌, ◌*◌, [], IfOk, OnOk, length};
+ghost use Rattle.std.specs.Prelude.{◌≡◌, ◌≤◌, ◌*◌, [], OnOk, length};
 ghost use Rattle.rev_nodes.specs.Changes.{apply_from};
 ghost use Rattle.tree_edits.specs.Edits.{AreShown};
 ghost use Rattle.tree_edits.specs.AreEdits.{AreEdits};
-ghost use Rattle.tree_settling.specs.Settled.{IsSettled};
 ghost use Rattle.rev_trees.specs.Kept.{trees_in, youngest, AreKept};
 ghost use Rattle.rev_trees.specs.Made.{fault_of, AppliesAll, Makes};
 
 use crate::changed_list::changed_paths;
 use crate::push_fault::PushFault;
 use crate::revision::{KeptRevision, source_root, youngest_root};
-use dsv_base::{NoMemory, Rev};
+use dsv_base::Rev;
 use rev_nodes::{Cell, Change, Commit, NodeId, Unfit};
 use std::alloc::Global;
 use tree_edits::Edits;
@@ -45,7 +44,7 @@ pub fn next_revision(
         commit.changes.get(),
         rev,
     )?;
-    let (more, root) = settled(alloc, cells, &edits, rev)?;
+    let (more, root) = settle(alloc, cells, &edits, rev)?;
     let changed = changed_paths(alloc, commit.changes.get(), cells, before, &edits)?;
     Ok(NextRevision {
         revision: KeptRevision {
@@ -55,19 +54,6 @@ pub fn next_revision(
         },
         cells: more,
     })
-}
-
-/// The cells that the edits come to, and the root that shows them.
-fn settled(
-    alloc: Global,
-    cells: &[Cell],
-    edits: &Edits,
-    rev: Rev,
-) -> Result<(Vec<Cell>, NodeId), NoMemory>
-    requires { AreEdits rev cells.now edits.now }
-    ensures { IfOk result (λ x. IsSettled rev cells.now edits.now x.0.items x.1) }
-{
-    settle(alloc, cells, edits, rev)
 }
 
 /// Does the changes in order, up to the first that doesn't fit.

@@ -1,7 +1,7 @@
 ghost use Rattle.std.specs.Prelude.{◌≡◌, ◌+◌, ◌<◌, ◌≤◌, ℕ, IsTrue, IfOk, [], ◌∷◌, length};
 ghost use Rattle.std.specs.Option.{SomeIff};
 ghost use Rattle.dsv_base.specs.Paths.{is_path};
-ghost use Rattle.node_table.specs.Tables.{cell_at};
+ghost use Rattle.node_table.specs.Tables.{cell_at, IsSoundTable};
 ghost use Rattle.rev_nodes.specs.Pushes.{first_revision};
 ghost use Rattle.rev_nodes.specs.Forests.{id_at, line_at, revision_at, repository_of, IsId, IsNodeOf};
 ghost use Rattle.rev_nodes.specs.Entries.{AreEntriesOf, HasNoneInFile, IsSound};
@@ -10,6 +10,7 @@ ghost use Rattle.rev_nodes.specs.Commits.{IsSoundCommit, IsCommitOf, AreCommits}
 ghost use Rattle.rev_nodes.specs.SoundNodes.{AreSoundNodes};
 ghost use Rattle.rev_nodes.specs.Subtrees.{HaveEqualSubtrees};
 ghost use Rattle.rev_trees.specs.Readies.{IsReadyOn, IsUnchanged, Prepares, Pushes};
+ghost use Rattle.rev_trees.specs.Drafts.{AreKeptIn};
 
 use crate::next::next_revision;
 use crate::push_fault::PushFault;
@@ -17,7 +18,7 @@ use crate::ready::Ready;
 use crate::revision::{KeptRevision, revision_of};
 use dsv_base::{Bytes, List, NoMemory, Path, Rev};
 use node_table::Table;
-use rev_nodes::{Changed, Commit, Entry, Line, Node, NodeId};
+use rev_nodes::{Cell, Changed, Commit, Entry, Line, Node, NodeId};
 use std::alloc::Global;
 use std::marker::Model;
 
@@ -172,6 +173,21 @@ impl Trees {
         ensures stored { result.now ≡ (cell_at self.now.nodes id).node }
     {
         self.table.node(id)
+    }
+
+    /// All nodes, by number.
+    pub(crate) fn cells(&self) -> &[Cell]
+        ensures cells { result.now ≡ self.now.nodes }
+        ensures sound { IsSoundTable self.now.nodes }
+    {
+        self.table.cells()
+    }
+
+    /// The revisions as they are kept.
+    pub(crate) fn kept(&self) -> &[KeptRevision]
+        ensures { AreKeptIn self.now result.now }
+    {
+        self.revisions.as_slice()
     }
 
     /// Makes the next revision of a commit, and room for it, so that its push takes no memory. The
