@@ -2,4 +2,4 @@ pub mod Uppers
 pub mod Ancestors
 pub mod Noting
 pub mod OnePass
-pub mod RowsFound
+pub mod KeyedRows

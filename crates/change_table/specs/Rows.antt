@@ -1,9 +1,8 @@
--- How a table of what changes did last is kept: as rows in byte order of the path, each path once.
-use Rattle.std.specs.Prelude.{ℕ, ◌≡◌, ◌≤◌, ◌<◌, Bool, List, Option, None, Some, length, map, slice_index_or, slice_set, insert, IsTrue}
+-- How a table of what changes did last is kept: as a map from the path's text to a row, which holds its path.
+use Rattle.std.specs.Prelude.{ℕ, ◌≡◌, Bool, List, map, IsTrue}
 use Rattle.std.specs.Option.{option_map}
-use Rattle.std.specs.FinMap.{put, find, is_sorted}
-use Rattle.std.specs.Ordering.{nat_cmp}
-use Rattle.std.specs.Cmp.Lexicographic.{slice_cmp}
+use Rattle.std.specs.List.{list_all}
+use Rattle.std.specs.Str.{bytes_eq}
 use Rattle.change_table.specs.declared.row.LastCopy.{LastCopy}
 use Rattle.change_table.specs.declared.row.Row.{Row}
 use Rattle.change_table.specs.ChangeTables.{LastChanges, ChangeTable}
@@ -20,28 +19,19 @@ last_in row = record { copy = option_map copy_in row.copy; delete = row.delete }
 abbrev pub row_in : Row → List ℕ × LastChanges
 row_in row = (row.path, last_in row)
 
--- the table that rows are
-abbrev pub table_in : List Row → ChangeTable
-table_in rows = map row_in rows
+-- the table that the entries of a map are, their keys being read as texts
+abbrev pub table_in : {K : Type 0} → (K → List ℕ) → List (K × Row) → ChangeTable
+table_in text entries = map (λ e. (text e.0, last_in e.1)) entries
 
--- the paths rise in byte order
-abbrev pub are_in_order : List Row → Bool
-are_in_order rows = is_sorted (slice_cmp nat_cmp) (table_in rows)
+-- each key, being read as a text, is the path of its row
+abbrev pub are_at_paths : {K : Type 0} → (K → List ℕ) → List (K × Row) → Bool
+are_at_paths text entries = list_all (λ e. bytes_eq e.1.path (text e.0)) entries
 
--- the row of the path stands at this index
-pub record IsRowOf (rows : List Row) (path : List ℕ) (index : ℕ) : Type 0 where
-  pub within : index < length rows
-  pub path_is : (d : Row) → (slice_index_or rows index d).path ≡ path
-  pub found : (d : Row) → find (slice_cmp nat_cmp) path (table_in rows) ≡ Some (last_in (slice_index_or rows index d))
-  pub set : (row : Row) → row.path ≡ path → put (slice_cmp nat_cmp) path (last_in row) (table_in rows) ≡ table_in (slice_set rows index row)
+-- the rows of a map's entries, each with its own path
+abbrev pub rows_in : {K : Type 0} → List (K × Row) → ChangeTable
+rows_in entries = map (λ e. row_in e.1) entries
 
--- the path has no row, and its row would stand at this index
-pub record IsGapOf (rows : List Row) (path : List ℕ) (index : ℕ) : Type 0 where
-  pub within : index ≤ length rows
-  pub missing : find (slice_cmp nat_cmp) path (table_in rows) ≡ None
-  pub set : (row : Row) → row.path ≡ path → put (slice_cmp nat_cmp) path (last_in row) (table_in rows) ≡ table_in (insert rows index row)
-
--- the rows of a table
-pub record AreRowsOf (table : ChangeTable) (rows : List Row) : Type 0 where
-  pub is : table_in rows ≡ table
-  pub sorted : IsTrue (are_in_order rows)
+-- the entries of a map are the rows of this table, and each key is the path of its row
+pub record AreRowsOf {K : Type 0} (text : K → List ℕ) (table : ChangeTable) (entries : List (K × Row)) : Type 0 where
+  pub is : table_in text entries ≡ table
+  pub named : IsTrue (are_at_paths text entries)

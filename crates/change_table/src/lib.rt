@@ -2,9 +2,10 @@
 #![tactic(auto)]
 
 mod law;
+mod named_path;
 mod row;
 mod table;
 
 pub use law::one_pass_tells_changed_paths;
-pub use row::{LastCopy, Row};
+pub use named_path::NamedPath;
 pub use table::ChangeTable;

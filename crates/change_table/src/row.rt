@@ -1,13 +1,10 @@
-ghost use Rattle.std.specs.Prelude.{◌≡◌, IsTrue, IfOk, IfErr, OnOk};
-ghost use Rattle.std.specs.Ordering.{nat_cmp};
-ghost use Rattle.std.specs.Cmp.Lexicographic.{slice_cmp};
+ghost use Rattle.std.specs.Prelude.{◌≡◌, IfOk, OnOk};
 ghost use Rattle.rev_nodes.specs.ChangedPaths.{path_of};
 ghost use Rattle.change_table.specs.ChangeTables.{noted, no_last};
-ghost use Rattle.change_table.specs.Rows.{last_in, are_in_order, IsRowOf, IsGapOf};
+ghost use Rattle.change_table.specs.Rows.{last_in};
 
 use dsv_base::{NoMemory, Path, Rev};
 use rev_nodes::Change;
-use std::cmp::Ordering;
 
 /// The last copy to a path: the number of the change, and what it was taken from.
 #[derive(Debug, Drop)]
@@ -78,17 +75,4 @@ pub(crate) fn path_of(change: &Change) -> &Path
         Change::Delete { path } => path,
         Change::Copy { path, .. } => path,
     }
-}
-
-/// Where the path stands among rows in order, or else where it would stand.
-pub(crate) fn search(rows: &[Row], path: &[u8]) -> Result<usize, usize>
-    requires { IsTrue (are_in_order rows.now) }
-    ensures found { IfOk result (IsRowOf rows.now path.now) }
-    ensures missing { IfErr result (IsGapOf rows.now path.now) }
-{
-    rows.binary_search_by(
-        |row: &Row| -> Ordering
-            ensures { result ≡ slice_cmp nat_cmp row.now.path path.entry.now }
-        { row.path.text().cmp(path) },
-    )
 }

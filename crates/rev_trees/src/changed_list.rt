@@ -53,10 +53,11 @@ fn changed_in(
     ensures { IfOk result (λ list. list ≡ filter_map (row_between table.now cells.now root edits.now) table.now) }
 {
     let mut list = Vec::new(alloc);
-    'rows: for row in table.rows() {
-        let was = kind_before(cells, root, &row.path);
-        let now = edits.kind_at(cells, &row.path);
-        if let Some(changed) = changed_at(table, was, now, &row.path)? {
+    'rows: for row in table.rows(alloc)? {
+        let path = row.path();
+        let was = kind_before(cells, root, path);
+        let now = edits.kind_at(cells, path);
+        if let Some(changed) = changed_at(table, was, now, path)? {
             list.push(changed)?;
         }
     }

@@ -1,5 +1,5 @@
 -- What edits show where nothing was touched, and what stays as the table grows.
-use Rattle.std.proofs.Common.{◌≡◌, ℕ, zero, suc, ◌-◌, ◌<◌, ◌≤◌, Bool, true, false, List, [], ◌∷◌, ◌++◌, Option, None, Some, length, refl, sym, ap, ◌∙◌, arith, length-append}
+use Rattle.std.proofs.Common.{◌≡◌, ℕ, ◌<◌, Bool, true, false, List, [], ◌∷◌, ◌++◌, Option, None, Some, length, refl, sym, ap, ◌∙◌, arith, length-append}
 use Rattle.std.specs.Prelude.{if◌then◌else◌}
 use Rattle.std.specs.Option.{option_map}
 use Rattle.std.specs.Str.{bytes_eq}
@@ -103,9 +103,3 @@ pub kept_height : (cells more : List Cell) (sound : IsSoundTable cells) (id : �
 kept_height cells more sound id within =
     (sound id).height ∙ sym (height_over-kept cells more (cell_at cells id).entries (λ k d less.
     let low = ((sound id).children _ _ (own_entry (cell_at cells id).entries (sound id).sorted k d less)).lower in omega (arith, low, within)))
-
--- the cells behind those of the table
-pub cell_at-behind : (cells more : List Cell) (id : ℕ) → length cells ≤ id → cell_at (cells ++ more) id ≡ cell_at more (id - length cells)
-cell_at-behind [] more id h = ap (cell_at more) (omega arith)
-cell_at-behind (c ∷ cells) more zero h = absurd (omega (arith, h))
-cell_at-behind (c ∷ cells) more (suc id) h = cell_at-behind cells more id (omega (arith, h)) ∙ ap (cell_at more) (omega arith)

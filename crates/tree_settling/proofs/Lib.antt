@@ -7,4 +7,3 @@ pub mod Scans
 pub mod Growths
 pub mod Places
 pub mod Turns
-pub mod TreesShown

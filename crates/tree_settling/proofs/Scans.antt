@@ -1,5 +1,5 @@
 -- What was made in one directory, as it is gone through in byte order of the paths.
-use Rattle.std.proofs.Common.{◌≡◌, ℕ, suc, ◌+◌, ◌-◌, ◌≤◌, Bool, true, false, cond, T, List, [], ◌∷◌, ◌++◌, Option, None, Some, length, take, drop, get_or, reverse, nat_eq, refl, sym, ap, subst, ◌∙◌, arith, append_assoc, append-nil}
+use Rattle.std.proofs.Common.{◌≡◌, ℕ, suc, ◌+◌, ◌-◌, ◌≤◌, Bool, true, false, cond, T, List, [], ◌∷◌, ◌++◌, Option, None, Some, length, take, drop, get_or, reverse, nat_eq, refl, sym, ap, subst, ◌∙◌, arith, append-nil}
 use Rattle.std.specs.Prelude.{if◌then◌else◌}
 use Rattle.std.specs.List.{list_all, starts_with}
 use Rattle.std.specs.Option.{option_map_or}
@@ -12,7 +12,6 @@ use Rattle.std.specs.declared.cmp.Ordering.TheVariants.{Less, Equal, Greater}
 use Rattle.std.specs.Cmp.{tied_itself, nat_cmp_total}
 use Rattle.std.specs.Cmp.Lexicographic.{slice_cmp}
 use Rattle.std.proofs.lemmas.Bool.{and_parts, and_from, eqb-true, eq-eqb}
-use Rattle.std.proofs.lemmas.List.{take_all}
 use Rattle.std.proofs.lemmas.Map.Lookups.{exact_bytes}
 use Rattle.dsv_base.specs.Paths.{is_path, is_component, name_of, parent_text, join_text, front_of, root_text}
 use Rattle.dsv_base.proofs.Joins.{join_parent, name_is_component, parent_joined}
@@ -190,11 +189,6 @@ pub record IsScanned (k : List ℕ) (made rest names : AllMade) : Type 0 where
   pub so : names ++ scan k (reverse rest) ≡ scan k (reverse made)
   pub paths : list_all (λ m. is_path m.0) (reverse rest) ≡ true
 
-pub scan_begins : (k : List ℕ) (made names : AllMade) (n : ℕ) → AreBehind k (reverse made) → n ≡ length made → names ≡ [] → IsScanned k made (take n made) names
-scan_begins k made names n are n_is names_is =
-    let all : take n made ≡ made = take_all n made (omega (arith, n_is)) in
-    subst (λ xs. IsScanned k made xs names) (sym all) (record { so = ap (λ xs. xs ++ scan k (reverse made)) names_is; paths = are.paths })
-
 pub scan_ends : (k : List ℕ) (made names : AllMade) (n : ℕ) → n ≡ 0 → IsScanned k made (take n made) names → names ≡ scan k (reverse made)
 scan_ends k made names n none so = sym (append-nil names) ∙ ap (λ m. names ++ scan k (reverse (take m made))) (sym none) ∙ so.so
 
@@ -202,24 +196,11 @@ module _ (k : List ℕ) (made names : AllMade) (n : ℕ) (first : List ℕ × Op
   cut : reverse (take n made) ≡ first ∷ reverse (take (n - 1) made)
   cut = last_first made n first some within is
 
-  pub first_path : is_path first.0 ≡ true
-  first_path = (and_parts (is_path first.0) _ (sym (ap (list_all (λ m. is_path m.0)) cut) ∙ so.paths)).0
-
   pub scan_stops : starts_with nat_eq first.0 k ≡ false → names ≡ scan k (reverse made)
   scan_stops not =
       sym (append-nil names)
       ∙ ap (λ xs. names ++ xs) (sym (ap (scan k) cut ∙ ap (λ b. if b then listed_in k first ++ scan k (reverse (take (n - 1) made)) else []) not))
       ∙ so.so
-
-  pub scan_goes_on : (new : AllMade) → new ≡ names ++ listed_in k first → starts_with nat_eq first.0 k ≡ true → IsScanned k made (take (n - 1) made) new
-  scan_goes_on new new_is begun = record {
-    so =
-        ap (λ xs. xs ++ scan k (reverse (take (n - 1) made))) new_is
-        ∙ append_assoc names (listed_in k first) (scan k (reverse (take (n - 1) made)))
-        ∙ ap (λ xs. names ++ xs) (sym (ap (scan k) cut ∙ ap (λ b. if b then listed_in k first ++ scan k (reverse (take (n - 1) made)) else []) begun))
-        ∙ so.so;
-    paths = (and_parts (is_path first.0) _ (sym (ap (list_all (λ m. is_path m.0)) cut) ∙ so.paths)).1;
-  }
 
 -- a name in its path
 pub name_cut : (k p : List ℕ) → is_path p ≡ true → parent_text p ≡ Some k → p ≡ front_of k ++ 47 ∷ name_of p

@@ -179,9 +179,6 @@ turned_first cells touched sound more none made made_is n n_is = record {
   so = subst (λ xs. AreSettled cells touched more [] xs) (sym made_is) (none_settled cells touched sound more none);
 }
 
-pub turned_last : (cells : List Cell) (touched : Touched) (more : List Cell) (made : AllMade) (n : ℕ) → n ≡ 0 → IsTurned cells touched more (take n touched) made → AreSettled cells touched more touched made
-turned_last cells touched more made n none t = subst (λ xs. AreSettled cells touched more xs made) (sym (t.split ∙ ap (λ m. take m touched ++ t.back) none)) t.so
-
 module _ (cells : List Cell) (touched : Touched) (more : List Cell) (made : AllMade) (n : ℕ) (last : List ℕ × Option Held) (some : 1 ≤ n) (within : n ≤ length touched) (is : last ≡ get_or touched (n - 1) last) (t : IsTurned cells touched more (take n touched) made) where
   cut : touched ≡ take (n - 1) touched ++ (last.0, last.1) ∷ t.back
   cut = t.split ∙ ap (λ xs. xs ++ t.back) (with_last touched n last some within is) ∙ append_assoc (take (n - 1) touched) (last ∷ []) t.back

@@ -1,13 +1,15 @@
 -- Entries of a directory, with what was made of some names.
-use Rattle.std.specs.Prelude.{ℕ, ◌≡◌, ◌<◌, ◌≤◌, ◌+◌, List, [], ◌∷◌, Option, None, Some, map, length, take, drop, slice_index_or, IsTrue}
+use Rattle.std.specs.Prelude.{ℕ, ◌≡◌, ◌<◌, ◌≤◌, ◌+◌, List, [], ◌∷◌, Option, None, Some, map, length, take, drop, slice_index_or, IsTrue, IfSome}
 use Rattle.std.specs.FinMap.{find, is_sorted}
 use Rattle.std.specs.Ordering.{nat_cmp}
 use Rattle.std.specs.declared.cmp.Ordering.{Ordering}
 use Rattle.std.specs.declared.cmp.Ordering.TheVariants.{Less, Equal, Greater}
 use Rattle.std.specs.Cmp.Lexicographic.{slice_cmp}
+use Rattle.rev_nodes.specs.declared.cell.Cell.{Cell}
 use Rattle.rev_nodes.specs.declared.entry.Entry.{Entry}
+use Rattle.rev_nodes.specs.declared.height.Height.{Height}
 use Rattle.node_table.specs.Ways.{Name}
-use Rattle.node_table.specs.Tables.{pair, child}
+use Rattle.node_table.specs.Tables.{pair, child, height_over}
 
 -- texts, which are paths or names, with what was made of each: the number of a cell, or nothing
 abbrev pub AllMade : Type 0
@@ -66,3 +68,7 @@ pub record CutsBefore (name : Name) (entries : List Entry) (index : ℕ) : Type 
   pub within : index ≤ length entries
   pub before : take index entries ≡ entries_before name entries
   pub behind : drop index entries ≡ entries_behind name entries
+
+-- a height, if it is told, is that of these entries among the cells
+abbrev pub TellsHeight : List Cell → List Entry → Option Height → Type 0
+TellsHeight cells entries height = IfSome height (λ h. h ≡ height_over cells entries)

@@ -1,4 +1,4 @@
-ghost use Rattle.std.specs.Prelude.{◌≡◌, ◌<◌, ◌+◌, ◌++◌, ◌∷◌, [], ℕ, IfOk, OnOk, Some, length, reverse};
+ghost use Rattle.std.specs.Prelude.{◌≡◌, ◌<◌, ◌+◌, ℕ, IfOk, OnOk, Some, length, reverse};
 ghost use Rattle.node_table.specs.Tables.{IsSoundTable};
 ghost use Rattle.tree_settling.specs.Listed.{AreBehind};
 ghost use Rattle.tree_settling.specs.Settled.{IsCellOf, IsAdded};

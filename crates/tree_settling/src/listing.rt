@@ -1,5 +1,4 @@
 ghost use Rattle.std.specs.Prelude.{◌≡◌, ◌+◌, ◌++◌, IfOk, OnOk, IsTrue, Some, length, drop, reverse};
-ghost use Rattle.std.specs.Option.{option_copied};
 ghost use Rattle.dsv_base.specs.Paths.{is_path, front_of, name_of, parent_text};
 ghost use Rattle.rev_nodes.specs.Entries.{is_child};
 ghost use Rattle.tree_settling.specs.Listed.{AreBehind, AreListed, listed_in};

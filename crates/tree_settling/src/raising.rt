@@ -1,9 +1,10 @@
-ghost use Rattle.std.specs.Prelude.{◌≡◌, ◌++◌, ℕ, true, max, IfSome, Some, option_to_list};
+ghost use Rattle.std.specs.Prelude.{◌≡◌, ◌++◌, ℕ, true, max, IfSome, List, Some, option_to_list};
 ghost use Rattle.std.specs.Option.{option_copied};
+ghost use Rattle.rev_nodes.specs.declared.entry.Entry.{Entry as EntryRecord};
 ghost use Rattle.rev_nodes.specs.declared.height.Height.{Height as HeightRecord};
 ghost use Rattle.node_table.specs.Heights.{higher};
 ghost use Rattle.node_table.specs.Tables.{height_over};
-ghost use Rattle.tree_settling.specs.Merged.{entry_made};
+ghost use Rattle.tree_settling.specs.Merged.{entry_made, TellsHeight};
 
 use crate::heights::{height_among, height_at};
 use crate::made::Made;
@@ -19,9 +20,9 @@ pub(crate) fn height_by(
     here: Option<&Entry>,
     change: &Made,
 ) -> Option<Height>
-    ensures { (others : HeightRecord) →
-        IfSome height (λ h. h ≡ higher (height_over (cells.now ++ more.now) (option_to_list (option_copied here.entry))) others) →
-        IfSome result (λ h. h ≡ higher (height_over (cells.now ++ more.now) (entry_made change.now.0 change.now.1)) others) }
+    ensures { (front back : List EntryRecord) →
+        TellsHeight (cells.now ++ more.now) (front ++ (option_to_list (option_copied here.entry) ++ back)) height →
+        TellsHeight (cells.now ++ more.now) (front ++ (entry_made change.now.0 change.now.1 ++ back)) result }
 {
     match height {
         None => None,
@@ -40,7 +41,7 @@ pub(crate) fn told_height(
     height: Option<Height>,
     entries: &[Entry],
 ) -> Height
-    requires { IfSome height (λ h. h ≡ height_over (cells.now ++ more.now) entries.now) }
+    requires { TellsHeight (cells.now ++ more.now) entries.now height }
     ensures { result ≡ height_over (cells.now ++ more.now) entries.now }
 {
     match height {

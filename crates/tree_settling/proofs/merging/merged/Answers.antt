@@ -5,7 +5,7 @@ use Rattle.node_table.specs.Ways.{Name}
 use Rattle.rev_nodes.specs.declared.entry.Entry.{Entry}
 use Rattle.tree_settling.specs.Merged.{entries_before, entries_behind, entry_made}
 use Rattle.tree_settling.proofs.Merges.{zipped_merged, merged_more, merged_all, behind_rises}
-use Rattle.tree_settling.proofs.Raised.{height_given}
+use Rattle.tree_settling.proofs.Raised.{next_height}
 use Rattle.tree_settling.proofs.merging.merged.Goals as goal
 
 pub returns-clause-merged : goal.returns-clause-merged
@@ -26,5 +26,5 @@ changes-preserved c =
     record {
       all = merged_more c.args.changes.now c.changes.change-index item old new rest cut.behind.now _ some c.change-item.is c.changes.invariant.all (c.in_ok-merge_one.ensures ∙ ap (λ (xs : List Entry). (old ++ xs) ++ entry_made item.0 item.1) before_is) behind_is;
       rise = behind_rises item.0 rest cut.behind.now behind_is c.changes.invariant.rise;
-      height = height_given (c.args.cells.now ++ c.args.more.now) old rest new cut.behind.now cut.before.now (option_to_list (option_copied cut.here)) (entry_made item.0 item.1) c.changes.height c.height_by-height.result c.cut_at_name-cut.ensures.whole c.in_ok-merge_one.ensures c.height_by-height.ensures c.changes.invariant.height;
+      height = next_height (c.args.cells.now ++ c.args.more.now) old rest new cut.behind.now cut.before.now (option_to_list (option_copied cut.here)) (entry_made item.0 item.1) c.changes.height c.height_by-height.result c.cut_at_name-cut.ensures.whole c.in_ok-merge_one.ensures c.height_by-height.ensures c.changes.invariant.height;
     }

@@ -1,6 +1,7 @@
 use Rattle.std.proofs.Common.{◌≡◌, ◌++◌, drop}
-use Rattle.std.specs.Prelude.{IsTrue, IfSome}
-use Rattle.node_table.specs.Tables.{entries_rise, height_over}
+use Rattle.std.specs.Prelude.{IsTrue}
+use Rattle.node_table.specs.Tables.{entries_rise}
+use Rattle.tree_settling.specs.Merged.{TellsHeight}
 use Rattle.tree_settling.proofs.Merges.{zipped}
 use Rattle.tree_settling.proofs.merging.merged.Given as goal
 
@@ -9,5 +10,5 @@ abbrev pub invariant-changes : goal.invariant-changes
 invariant-changes l = record {
   all : l.all.items ++ zipped (drop l.change-index l.changes) l.rest ≡ zipped l.changes l.kept.entries;
   rise : IsTrue (entries_rise l.rest);
-  height : IfSome l.height (λ h. h ≡ height_over (l.cells ++ l.more) (l.all.items ++ l.rest));
+  height : TellsHeight (l.cells ++ l.more) (l.all.items ++ l.rest) l.height;
 }

@@ -1,5 +1,5 @@
 use Rattle.std.proofs.Common.{length}
-use Rattle.change_table.proofs.table.+last_delete.Given as goal
+use Rattle.change_table.proofs.table.ChangeTable.+last_delete.Given as goal
 
 -- a parent's text is shorter
 abbrev pub decreases-last_delete : goal.decreases-last_delete
