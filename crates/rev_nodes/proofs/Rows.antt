@@ -1,5 +1,5 @@
 -- The worked repository, computed.
-use Rattle.std.proofs.Common.{◌≡◌, ℕ, zero, suc, List, [], ◌∷◌, ◌++◌, Option, None, Some, Ok, Err, refl}
+use Rattle.std.proofs.Common.{◌≡◌, ℕ, zero, suc, true, false, List, [], ◌∷◌, ◌++◌, Option, None, Some, Ok, Err, refl}
 use Rattle.std.specs.Prelude.{codes}
 use Rattle.std.specs.Str.{is_utf8, chars}
 use Rattle.std.proofs.Math.Utf8.{encode}
@@ -14,6 +14,7 @@ use Rattle.rev_nodes.specs.declared.mark.Mark.{Mark}
 use Rattle.rev_nodes.specs.declared.mark.Mark.TheVariants.{Added, Modified, Deleted, Replaced}
 use Rattle.rev_nodes.specs.declared.unfit.Unfit.TheVariants.{NoNode, IsRoot, Exists, NoParent, TooLong}
 use Rattle.rev_nodes.specs.Trees.{Tree, TreeNode, first_tree, new_dir, new_file}
+use Rattle.rev_nodes.specs.Drafts.{draft_tree, is_touched}
 use Rattle.rev_nodes.specs.Changes.{unfit, apply, apply_from}
 use Rattle.rev_nodes.specs.ChangedPaths.{changed_paths}
 
@@ -177,3 +178,30 @@ lost_source = refl
 replaced_by_copy : changed_paths (Delete (codes "/pub/a") ∷ Copy (codes "/sec/k") 1 (codes "/pub/a") ∷ []) tree_1 tree_1 ≡ told (codes "/pub/a") Replaced File (Some (codes "/sec/k", 1)) ∷ []
 unfolding changed_paths is_under
 replaced_by_copy = refl
+
+-- a change touches what it names and what stands above, and not what stands below or beside
+touched_above : is_touched (codes "/pub") (Put (codes "/pub/a") [] ∷ []) ≡ true
+unfolding is_under
+touched_above = refl
+
+untouched_below : is_touched (codes "/pub/a") (Delete (codes "/pub") ∷ []) ≡ false
+unfolding is_under
+untouched_below = refl
+
+untouched_beside : is_touched (codes "/public") (Mkdir (codes "/pub") ∷ []) ≡ false
+unfolding is_under
+untouched_beside = refl
+
+-- a copy touches what stands below its destination too, and not its source
+touched_by_copy : is_touched (codes "/new/a") (Copy (codes "/pub") 1 (codes "/new") ∷ []) ≡ true
+unfolding is_under
+touched_by_copy = refl
+
+untouched_source : is_touched (codes "/pub/a") (Copy (codes "/pub") 1 (codes "/new") ∷ []) ≡ false
+unfolding is_under
+untouched_source = refl
+
+-- a draft's tree has the last number for the revision that is to come
+drafted_text : draft_tree trees 1 changes_2 ≡ Ok ((codes "/", marked_dir 0 2000000000) ∷ (codes "/pub", new_dir 1) ∷ (codes "/pub/a", new_file (codes "abc") 1) ∷ (codes "/sec", marked_dir 1 2000000000) ∷ (codes "/sec/k", marked_file (codes "new") 1 2000000000) ∷ [])
+unfolding apply_from apply unfit parent_text is_under
+drafted_text = refl

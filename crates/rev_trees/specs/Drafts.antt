@@ -1,8 +1,12 @@
 -- Drafts over the trees of a repository, which may grow while a draft lasts.
-use Rattle.std.specs.Prelude.{ℕ, ◌≡◌, ◌<◌, ◌||◌, nat_eq, List, ◌++◌, None, Some, Ok, length, if◌then◌else◌}
+use Rattle.std.specs.Prelude.{ℕ, ◌≡◌, ◌<◌, ◌||◌, nat_eq, List, [], ◌∷◌, ◌++◌, Option, None, Some, Result, Ok, length, if◌then◌else◌}
+use Rattle.std.specs.Option.{option_map}
 use Rattle.rev_nodes.specs.declared.cell.Cell.{Cell}
 use Rattle.rev_nodes.specs.declared.change.Change.{Change}
-use Rattle.rev_nodes.specs.Trees.{TreeNode, Tree}
+use Rattle.rev_nodes.specs.declared.unfit.Unfit.{Unfit}
+use Rattle.rev_nodes.specs.Trees.{TreeNode, Tree, at}
+use Rattle.rev_nodes.specs.Changes.{unfit}
+use Rattle.rev_nodes.specs.Fitting.{Fits}
 use Rattle.rev_nodes.specs.Forests.{ForestRevision, Forest}
 use Rattle.rev_nodes.specs.Pushes.{trees_of}
 use Rattle.rev_nodes.specs.Drafts.{coming, draft_tree, is_touched, TellsTouched}
@@ -39,7 +43,19 @@ drafted forest draft = tree_or_none (draft_tree (flat_trees forest) draft.base d
 abbrev pub seen_at : List ℕ → List Change → TreeNode → Seen
 seen_at path changes found = record { kind = found.node.kind; created = if is_touched path changes then None else Some found.node.created }
 
--- the same as it is told by a glance: what was changed or began in the revision that is to come was touched
+-- what a draft shows at a path, if anything stands there; copies are taken from these trees
+abbrev pub draft_shows : Forest → DraftOn → List ℕ → Option Seen
+draft_shows trees draft path = option_map (seen_at path draft.changes) (at path (drafted trees draft))
+
+-- the draft with this change behind its others, and with these trees
+abbrev pub with_one_more : Forest → Change → DraftOn → DraftOn
+with_one_more trees change draft = record { trees = trees; base = draft.base; changes = draft.changes ++ change ∷ [] }
+
+-- the change fits the tree of the old draft, and the new one has it behind the others, and these trees; or this is why it doesn't fit; want of memory is free
+abbrev pub Tries : {X : Type 0} → Forest → Change → DraftOn → DraftOn → Result X Unfit → Type 0
+Tries trees change old new result = Fits (λ done. new ≡ with_one_more trees change old) (unfit change (flat_trees trees) (drafted trees old)) result
+
+-- what a draft shows where a glance tells this: what was changed or began in the revision that is to come was touched
 abbrev pub seen_glance : Glance → Seen
 seen_glance glance = record { kind = glance.kind; created = if nat_eq glance.created coming || nat_eq glance.since coming then None else Some glance.created }
 

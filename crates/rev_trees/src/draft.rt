@@ -1,6 +1,6 @@
-ghost use Rattle.std.specs.Prelude.{◌≡◌, ◌<◌, ◌≤◌, ◌++◌, ◌∷◌, [], Ok, IfOk, OnErr, nat_lt, length};
+ghost use Rattle.std.specs.Prelude.{◌≡◌, ◌<◌, ◌≤◌, [], Ok, IfOk, OnErr, nat_lt, length};
 ghost use Rattle.std.specs.Option.{option_map};
-ghost use Rattle.rev_nodes.specs.Trees.{Tree, at};
+ghost use Rattle.rev_nodes.specs.Trees.{Tree};
 ghost use Rattle.rev_nodes.specs.Changes.{unfit, apply};
 ghost use Rattle.rev_nodes.specs.Fitting.{Fits};
 ghost use Rattle.rev_nodes.specs.Formed.{IsFormed};
@@ -8,7 +8,7 @@ ghost use Rattle.rev_nodes.specs.Drafts.{coming, draft_tree};
 ghost use Rattle.tree_edits.specs.Edits.{AreShown};
 ghost use Rattle.tree_edits.specs.AreEdits.{AreEdits};
 ghost use Rattle.rev_trees.specs.Kept.{trees_in, AreKept};
-ghost use Rattle.rev_trees.specs.Drafts.{IsGrown, flat_trees, drafted, seen_at, seen_glance};
+ghost use Rattle.rev_trees.specs.Drafts.{IsGrown, Tries, flat_trees, drafted, draft_shows, seen_glance};
 
 use crate::revision::{KeptRevision, revision_of, source_root};
 use crate::seen::Seen;
@@ -84,7 +84,8 @@ impl Draft {
     /// formed.
     pub fn learn(&self, trees: &Trees)
         requires { IsGrown self.now.trees trees.now }
-        ensures fit { draft_tree (flat_trees trees.now) self.now.base self.now.changes ≡ Ok (drafted trees.now self.now) }
+        ensures fit { draft_tree (flat_trees trees.now) self.now.base self.now.changes
+            ≡ Ok (drafted trees.now self.now) }
         ensures formed { IsFormed (drafted trees.now self.now) }
     {
         let _base = self.base;
@@ -96,8 +97,7 @@ impl Draft {
     /// 2,000,000,000: nothing can be committed any more.
     pub fn apply(&mut self, trees: &Trees, change: &Change) -> Result<(), Unfit>
         requires { IsGrown self.old.trees trees.now }
-        ensures says { Fits (λ done. self.new ≡ record { trees = trees.now; base = self.old.base; changes = self.old.changes ++ change.now ∷ [] })
-            (unfit change.now (flat_trees trees.now) (drafted trees.now self.old)) result }
+        ensures says { Tries trees.now change.now self.old self.new result }
         ensures kept { OnErr result (self.new ≡ self.old) }
         ensures grown { IsGrown self.new.trees trees.now }
     {
@@ -126,7 +126,7 @@ impl Draft {
     /// What stands at a path, if anything does.
     pub fn look(&self, trees: &Trees, path: &Path) -> Option<Seen>
         requires { IsGrown self.now.trees trees.now }
-        ensures { result ≡ option_map (seen_at path.now self.now.changes) (at path.now (drafted trees.now self.now)) }
+        ensures { result ≡ draft_shows trees.now self.now path.now }
     {
         seen_of(self.edits.glance(trees.cells(), path))
     }
@@ -162,7 +162,8 @@ fn change_edits(
     requires are { AreEdits coming cells.now edits.old }
     ensures are { AreEdits coming cells.now edits.new }
     ensures says { (tree : Tree) → AreShown cells.now edits.old tree
-        → Fits (λ done. AreShown cells.now edits.new (apply change.now (trees_in revisions.now) tree coming)) (unfit change.now (trees_in revisions.now) tree) result }
+        → Fits (λ done. AreShown cells.now edits.new (apply change.now (trees_in revisions.now) tree coming))
+        (unfit change.now (trees_in revisions.now) tree) result }
     ensures kept { OnErr result (edits.new ≡ edits.old) }
 {
     let from = source_root(revisions, change);
