@@ -55,6 +55,12 @@ abbrev pub optional : {X : Type 0} → (List ℕ → Option X) → Option (List 
 optional read None = Some None
 optional read (Some value) = option_map Some (read value)
 
+-- the next step of a chain, which the first none ends
+infixl 10 ◌>>=◌
+abbrev ◌>>=◌ : {A B : Type 0} → Option A → (A → Option B) → Option B
+(Some x) >>= f = f x
+None >>= f = None
+
 -- `--script F --rules F --users F`, in any order
 abbrev pub file_names_of : Given → Option FileNames
 file_names_of given = do
