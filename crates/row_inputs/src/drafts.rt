@@ -1,4 +1,5 @@
 ghost use Rattle.std.specs.Prelude.{length, ◌<◌};
+ghost use Rattle.rev_trees.specs.Drafts.{IsGrown};
 
 use crate::nodes::kind_word;
 use dsv_base::{Path, Rev};
@@ -23,7 +24,10 @@ pub fn put_draft(trees: &Trees, base: Rev, given: &Given<'_>, out: &mut Answer)
     }
 }
 
-fn tried(trees: &Trees, draft: Draft, changes: &[Change], out: &mut Answer) -> Draft {
+fn tried(trees: &Trees, draft: Draft, changes: &[Change], out: &mut Answer) -> Draft
+    requires { IsGrown draft.trees trees.now }
+    ensures { IsGrown result.trees trees.now }
+{
     let mut draft = draft;
     'changes: for (number, change) in changes.iter().enumerate() {
         if let Err(why) = draft.apply(trees, change) {
