@@ -191,32 +191,32 @@ change_says cells rs kept change old new r r_is from from_is result says tree sh
 
 module _ (trees : Forest) (base : ℕ) (changes : List Change) (old : EditedTree) (draft : DraftOn) (is : inside trees base changes ≡ draft) (made : IsDraft trees base changes old) (now : Forest) (grown : IsGrown draft.trees now) (rs : List KeptRevision) (kept : AreKeptIn now rs) where
   -- the draft as it is among these trees
-  pub d : IsDraft now base changes old
-  d = here_now trees base changes old draft is made now grown kept.kept.sound
+  pub draft_now : IsDraft now base changes old
+  draft_now = here_now trees base changes old draft is made now grown kept.kept.sound
 
-  why_is : (change : Change) → unfit change (flat_trees now) (drafted now draft) ≡ unfit change (trees_in rs) d.tree
-  unfolding d
+  why_is : (change : Change) → unfit change (flat_trees now) (drafted now draft) ≡ unfit change (trees_in rs) draft_now.tree
+  unfolding draft_now
   why_is change = λ i. unfit change (kept.trees i) (drafted_is trees base changes old draft is made now grown kept.kept.sound i)
 
-  pub fails_as : (change : Change) (why : Unfit) → MatchBool (is_want why) (Unit {0}) (unfit change (trees_in rs) d.tree ≡ Some why) → MatchBool (is_want why) (Unit {0}) (unfit change (flat_trees now) (drafted now draft) ≡ Some why)
-  fails_as change why = same_fault (unfit change (trees_in rs) d.tree) (unfit change (flat_trees now) (drafted now draft)) why (why_is change)
+  pub fails_as : (change : Change) (why : Unfit) → MatchBool (is_want why) (Unit {0}) (unfit change (trees_in rs) draft_now.tree ≡ Some why) → MatchBool (is_want why) (Unit {0}) (unfit change (flat_trees now) (drafted now draft) ≡ Some why)
+  fails_as change why = same_fault (unfit change (trees_in rs) draft_now.tree) (unfit change (flat_trees now) (drafted now draft)) why (why_is change)
 
-  pub fits_as : (change copy : Change) (at_last : Forest) (all : List Change) → unfit change (trees_in rs) d.tree ≡ None → at_last ≡ now → all ≡ changes ++ copy ∷ [] → copy ≡ change → (unfit change (flat_trees now) (drafted now draft) ≡ None) × (inside at_last base all ≡ inside now draft.base (draft.changes ++ change ∷ []))
+  pub fits_as : (change copy : Change) (at_last : Forest) (all : List Change) → unfit change (trees_in rs) draft_now.tree ≡ None → at_last ≡ now → all ≡ changes ++ copy ∷ [] → copy ≡ change → (unfit change (flat_trees now) (drafted now draft) ≡ None) × (inside at_last base all ≡ inside now draft.base (draft.changes ++ change ∷ []))
   fits_as change copy at_last all fits last_is all_are same = (
     why_is change ∙ fits,
     (λ i. inside (last_is i) base ((all_are ∙ ap (λ (c : Change). changes ++ c ∷ []) same) i)) ∙ ap (λ (q : DraftOn). inside now q.base (q.changes ++ change ∷ [])) is,
   )
 
-  pub changed_so : (change copy : Change) (new : EditedTree) (at_last : Forest) (all : List Change) → AreEdits coming now.nodes new → unfit change (trees_in rs) d.tree ≡ None → AreShown now.nodes new (apply change (trees_in rs) d.tree coming) → at_last ≡ now → all ≡ changes ++ copy ∷ [] → copy ≡ change → IsDraft at_last base all new
+  pub changed_so : (change copy : Change) (new : EditedTree) (at_last : Forest) (all : List Change) → AreEdits coming now.nodes new → unfit change (trees_in rs) draft_now.tree ≡ None → AreShown now.nodes new (apply change (trees_in rs) draft_now.tree coming) → at_last ≡ now → all ≡ changes ++ copy ∷ [] → copy ≡ change → IsDraft at_last base all new
   changed_so change copy new at_last all are fits shown last_is all_are same =
-      let fits_flat : unfit change (flat_trees now) d.tree ≡ None = ap (λ (ts : List Tree). unfit change ts d.tree) kept.trees ∙ fits in
+      let fits_flat : unfit change (flat_trees now) draft_now.tree ≡ None = ap (λ (ts : List Tree). unfit change ts draft_now.tree) kept.trees ∙ fits in
       let from = sources now rs kept in
       subst (λ (f : Forest). IsDraft f base all new) (sym last_is)
       (subst (λ (cs : List Change). IsDraft now base cs new) (sym (all_are ∙ ap (λ (c : Change). changes ++ c ∷ []) same)) (record {
-        within = d.within;
+        within = draft_now.within;
         are = are;
-        tree = apply change (flat_trees now) d.tree coming;
-        is = one_more changes 0 coming (flat_trees now) (tree_at (flat_trees now) base) d.tree change d.is fits_flat;
-        shown = subst (λ (ts : List Tree). AreShown now.nodes new (apply change ts d.tree coming)) (sym kept.trees) shown;
-        tells = change_touches coming (flat_trees now) from.sorted from.formed d.tree d.shown.formed changes d.tells change fits_flat;
+        tree = apply change (flat_trees now) draft_now.tree coming;
+        is = one_more changes 0 coming (flat_trees now) (tree_at (flat_trees now) base) draft_now.tree change draft_now.is fits_flat;
+        shown = subst (λ (ts : List Tree). AreShown now.nodes new (apply change ts draft_now.tree coming)) (sym kept.trees) shown;
+        tells = change_touches coming (flat_trees now) from.sorted from.formed draft_now.tree draft_now.shown.formed changes draft_now.tells change fits_flat;
       }))
