@@ -1,0 +1,20 @@
+use Rattle.std.proofs.Common.{◌≡◌, ℕ, List, [], ◌∷◌, length, get_or, ◌/◌, ◌%◌, refl, sym, ap, ◌∙◌, rules}
+use Rattle.std.proofs.lemmas.Slice.Eq.{text_from_reads}
+use Rattle.dsv_dates.specs.Dates.{http_text, http_written}
+use Rattle.dsv_dates.proofs.texts.http_text.Goals as goal
+
+three_letters : (xs : List ℕ) → length xs ≡ 3 → xs ≡ get_or xs 0 0 ∷ get_or xs 1 0 ∷ get_or xs 2 0 ∷ []
+three_letters xs h = text_from_reads xs _ h (refl, (refl, (refl, tt)))
+
+through : (a b c : List ℕ) → b ≡ c → a ≡ b → a ≡ c
+through a b c later first = first ∙ later
+
+pub returns : goal.returns
+unfolding http_text
+returns c =
+    let seconds = c.get-seconds.result / 1000000 in
+    let weekday = sym c.weekday_name-weekday.ensures ∙ three_letters c.weekday_name-weekday.result (search rules) in
+    let month = sym c.month_name-month.ensures ∙ three_letters c.month_name-month.result (search rules) in
+    let dated = ap (λ date. http_written (seconds / 86400) date (seconds % 86400)) c.date_of-date.ensures.value in
+    rw (c.two_digits-day.ensures, c.four_digits-year.ensures, c.clock_text-clock.ensures)
+    (through _ _ _ (dated ∙ ap http_text c.get-seconds.ensures.value) (rw (weekday, month) refl))
