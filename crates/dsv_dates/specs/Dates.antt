@@ -1,5 +1,5 @@
 -- The Gregorian calendar, whose days are numbered from 1 January 1970, and the two texts of a moment.
-use Rattle.std.specs.Prelude.{◌≡◌, ℕ, zero, suc, ◌+◌, ◌-◌, ◌*◌, ◌/◌, ◌%◌, ◌<◌, ◌≤◌, Bool, not, ◌&&◌, ◌||◌, List, [], ◌∷◌, ◌++◌, slice_index_or, codes, ◌==◌, nat_lt, if◌then◌else◌}
+use Rattle.std.specs.Prelude.{ℕ, zero, suc, ◌+◌, ◌-◌, ◌/◌, ◌%◌, ◌≤◌, Bool, not, ◌&&◌, ◌||◌, List, [], ◌∷◌, ◌++◌, slice_index_or, codes, ◌==◌, nat_lt, if◌then◌else◌}
 
 -- each fourth year is a leap year, but of those that end a century only each fourth
 abbrev pub is_leap_year : ℕ → Bool
@@ -73,20 +73,24 @@ abbrev pub clock_text : ℕ → List ℕ
 clock_text second =
     two_digits (second / 3600) ++ codes ":" ++ two_digits (second / 60 % 60) ++ codes ":" ++ two_digits (second % 60)
 
--- the first three letters of the weekday of the day with this number: 1 January 1970 was a Thursday
-abbrev pub weekday_name : ℕ → List ℕ
-weekday_name number =
-    slice_index_or
-    (codes "Thu" ∷ codes "Fri" ∷ codes "Sat" ∷ codes "Sun" ∷ codes "Mon" ∷ codes "Tue" ∷ codes "Wed" ∷ [])
-    (number % 7) []
+-- the days of a week by their first three letters, from Thursday on
+abbrev pub weekday_names : List (List ℕ)
+weekday_names =
+    codes "Thu" ∷ codes "Fri" ∷ codes "Sat" ∷ codes "Sun" ∷ codes "Mon" ∷ codes "Tue" ∷ codes "Wed" ∷ []
 
--- the first three letters of a month
+-- the weekday of the day with this number: 1 January 1970, whose number is 0, was a Thursday
+abbrev pub weekday_name : ℕ → List ℕ
+weekday_name number = slice_index_or weekday_names (number % 7) []
+
+-- the months by their first three letters
+abbrev pub month_names : List (List ℕ)
+month_names =
+    codes "Jan" ∷ codes "Feb" ∷ codes "Mar" ∷ codes "Apr" ∷ codes "May" ∷ codes "Jun"
+    ∷ codes "Jul" ∷ codes "Aug" ∷ codes "Sep" ∷ codes "Oct" ∷ codes "Nov" ∷ codes "Dec" ∷ []
+
+-- the name of a month, the first of which is 1
 abbrev pub month_name : ℕ → List ℕ
-month_name month =
-    slice_index_or
-    (codes "Jan" ∷ codes "Feb" ∷ codes "Mar" ∷ codes "Apr" ∷ codes "May" ∷ codes "Jun"
-    ∷ codes "Jul" ∷ codes "Aug" ∷ codes "Sep" ∷ codes "Oct" ∷ codes "Nov" ∷ codes "Dec" ∷ [])
-    (month - 1) []
+month_name month = slice_index_or month_names (month - 1) []
 
 -- the number of a moment's day
 abbrev pub moment_day : ℕ → ℕ

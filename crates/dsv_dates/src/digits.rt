@@ -5,10 +5,7 @@ ghost use Rattle.dsv_dates.specs.Dates.{two_digits, four_digits, six_digits, clo
 pub fn two_digits(number: u32) -> [u8; 2]
     ensures { result ≡ two_digits number }
 {
-    [
-        b'0' + (number / 10 % 10) as u8,
-        b'0' + (number % 10) as u8,
-    ]
+    [b'0' + (number / 10 % 10) as u8, b'0' + (number % 10) as u8]
 }
 
 /// The last four digits of a number.
@@ -36,5 +33,7 @@ pub fn clock_text(second: u32) -> [u8; 8]
     let hour = two_digits(second / 3600);
     let minute = two_digits(second / 60 % 60);
     let second = two_digits(second % 60);
-    [hour[0], hour[1], b':', minute[0], minute[1], b':', second[0], second[1]]
+    [
+        hour[0], hour[1], b':', minute[0], minute[1], b':', second[0], second[1],
+    ]
 }

@@ -23,9 +23,9 @@ pub fn iso_text(moment: Moment) -> [u8; 27]
     let clock = clock_text((seconds % DAY) as u32);
     let rest = six_digits((micros % 1_000_000) as u32);
     [
-        year[0], year[1], year[2], year[3], b'-', month[0], month[1], b'-', day[0], day[1], b'T', clock[0],
-        clock[1], clock[2], clock[3], clock[4], clock[5], clock[6], clock[7], b'.', rest[0], rest[1], rest[2],
-        rest[3], rest[4], rest[5], b'Z',
+        year[0], year[1], year[2], year[3], b'-', month[0], month[1], b'-', day[0], day[1], b'T',
+        clock[0], clock[1], clock[2], clock[3], clock[4], clock[5], clock[6], clock[7], b'.',
+        rest[0], rest[1], rest[2], rest[3], rest[4], rest[5], b'Z',
     ]
 }
 
@@ -43,8 +43,8 @@ pub fn http_text(moment: Moment) -> [u8; 29]
     let year = four_digits(date.year);
     let clock = clock_text((seconds % DAY) as u32);
     [
-        weekday[0], weekday[1], weekday[2], b',', b' ', day[0], day[1], b' ', month[0], month[1], month[2], b' ',
-        year[0], year[1], year[2], year[3], b' ', clock[0], clock[1], clock[2], clock[3], clock[4], clock[5],
-        clock[6], clock[7], b' ', b'G', b'M', b'T',
+        weekday[0], weekday[1], weekday[2], b',', b' ', day[0], day[1], b' ', month[0], month[1],
+        month[2], b' ', year[0], year[1], year[2], year[3], b' ', clock[0], clock[1], clock[2],
+        clock[3], clock[4], clock[5], clock[6], clock[7], b' ', b'G', b'M', b'T',
     ]
 }

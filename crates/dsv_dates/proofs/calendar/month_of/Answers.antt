@@ -1,12 +1,7 @@
-use Rattle.std.proofs.Common.{◌≡◌, ℕ, suc, zero, ◌+◌, ◌-◌, ◌<◌, ◌≤◌, refl, sym, ◌∙◌, arith}
-use Rattle.dsv_dates.specs.Dates.{month_days, sizes_of, part_at, month_at}
-use Rattle.dsv_dates.proofs.Counts.{months_counted, part_here, part_behind}
+use Rattle.std.proofs.Common.{◌≡◌, ℕ, suc, ◌+◌, ◌-◌, ◌<◌, ◌≤◌, refl, sym, ◌∙◌, arith}
+use Rattle.dsv_dates.specs.Dates.{month_days, sizes_of, part_at}
+use Rattle.dsv_dates.proofs.Counts.{months_counted, part_here, part_behind, sizes-first}
 use Rattle.dsv_dates.proofs.calendar.month_of.Goals as goal
-
-sizes-first : (size : ℕ → ℕ) (count more first : ℕ) → count ≡ suc more → sizes_of size first count ≡ size first + sizes_of size (suc first) more
-unfolding sizes_of
-sizes-first size zero more first e = absurd (omega arith)
-sizes-first size (suc count) more first e = let same : count ≡ more = omega arith in rw same refl
 
 -- a month that has passed is counted off
 next_place : (year month next left days : ℕ) → next ≡ month + 1 → month < 12 → days ≡ month_days year month → days ≤ left → part_at (month_days year) (12 - month) month left ≡ part_at (month_days year) (12 - next) next (left - days)
@@ -42,9 +37,10 @@ months-preserved c =
     let month = c.months.month in
     let small : month < 12 = c.months-test.true in
     let length = c.month_days-days.ensures.value in
-    let passed = c.if-left-days.false in
-    (sym (next_place c.args.year month (month + 1) c.months.left _ refl small length passed) ∙ c.months.invariant.0,
-    next_within c.args.year month (month + 1) c.months.left _ refl small length passed c.months.invariant.1)
+    let passed = c.if-left-days.false in (
+      sym (next_place c.args.year month (month + 1) c.months.left _ refl small length passed) ∙ c.months.invariant.0,
+      next_within c.args.year month (month + 1) c.months.left _ refl small length passed c.months.invariant.1,
+    )
 
 pub returns-clause-value : goal.returns-clause-value
 returns-clause-value c =

@@ -1,5 +1,5 @@
-use Rattle.std.proofs.Common.{◌≡◌, ℕ, suc, ◌+◌, ◌-◌, ◌*◌, ◌/◌, ◌<◌, ◌≤◌, sym, arith}
-use Rattle.dsv_dates.specs.Dates.{year_days, sizes_of, year_at}
+use Rattle.std.proofs.Common.{◌≡◌, ℕ, suc, ◌+◌, ◌-◌, ◌<◌, ◌≤◌, sym, arith}
+use Rattle.dsv_dates.specs.Dates.{year_days, year_at}
 use Rattle.dsv_dates.specs.Counting.{days_before}
 use Rattle.dsv_dates.proofs.Counts.{years_counted, part_found, days_before-suc}
 use Rattle.dsv_dates.proofs.calendar.year_of.Goals as goal

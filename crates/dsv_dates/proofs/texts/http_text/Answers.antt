@@ -1,10 +1,7 @@
-use Rattle.std.proofs.Common.{◌≡◌, ℕ, List, [], ◌∷◌, length, get_or, ◌/◌, ◌%◌, refl, sym, ap, ◌∙◌, rules}
-use Rattle.std.proofs.lemmas.Slice.Eq.{text_from_reads}
+use Rattle.std.proofs.Common.{◌≡◌, ℕ, List, ◌/◌, ◌%◌, refl, sym, ap, ◌∙◌, rules}
 use Rattle.dsv_dates.specs.Dates.{http_text, http_written}
+use Rattle.dsv_dates.proofs.Letters.{three_letters}
 use Rattle.dsv_dates.proofs.texts.http_text.Goals as goal
-
-three_letters : (xs : List ℕ) → length xs ≡ 3 → xs ≡ get_or xs 0 0 ∷ get_or xs 1 0 ∷ get_or xs 2 0 ∷ []
-three_letters xs h = text_from_reads xs _ h (refl, (refl, (refl, tt)))
 
 through : (a b c : List ℕ) → b ≡ c → a ≡ b → a ≡ c
 through a b c later first = first ∙ later

@@ -1,4 +1,4 @@
-use Rattle.std.proofs.Common.{◌≡◌, ◌/◌, ◌%◌, ap, ◌∙◌}
+use Rattle.std.proofs.Common.{◌%◌, ap, ◌∙◌}
 use Rattle.dsv_dates.specs.Dates.{iso_text, iso_written, moment_second}
 use Rattle.dsv_dates.proofs.texts.iso_text.Goals as goal
 
