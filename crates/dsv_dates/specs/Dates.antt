@@ -16,13 +16,13 @@ month_days year month =
     if month == 2 then (if is_leap_year year then 29 else 28) else
     (if month == 4 || month == 6 || month == 9 || month == 11 then 30 else 31)
 
--- the sizes of this many parts, the first of which has the given number, added up
+-- the sizes of so many parts, the first of which has the given number, added up
 unfoldable pub sizes_of : (ℕ → ℕ) → ℕ → ℕ → ℕ
 sizes_of size first zero = 0
 sizes_of size first (suc count) = size first + sizes_of size (suc first) count
 
--- the number of the day: the days from 1 January 1970 to it, which are those of all years before, those of all months
--- of its year before, and those of its month before
+-- the number of a day: the days from 1 January 1970 to it, which are those of all years before, those of all
+-- months of its year before, and those of its month before
 abbrev pub day_number : ℕ → ℕ → ℕ → ℕ
 day_number year month day =
     sizes_of year_days 1970 (year - 1970) + sizes_of (month_days year) 1 (month - 1) + (day - 1)
@@ -33,8 +33,8 @@ IsDate year month day =
     ((1970 ≤ year) × (year ≤ 9999)) × ((1 ≤ month) × (month ≤ 12))
     × ((1 ≤ day) × (day ≤ month_days year month))
 
--- the part that a place lies in and the place within that part, where parts stand one behind another, the first has the
--- given number, and at most so many stand before the last
+-- the number of the part that a place lies in and the place within that part, where parts of these sizes stand one
+-- behind another, the first has the given number, and the last is at most so many later
 unfoldable pub part_at : (ℕ → ℕ) → ℕ → ℕ → ℕ → ℕ × ℕ
 part_at size zero first place = (first, place)
 part_at size (suc more) first place =
@@ -60,18 +60,19 @@ date_at number = date_in (year_at number).0 (month_at (year_at number).0 (year_a
 abbrev pub two_digits : ℕ → List ℕ
 two_digits n = (48 + n / 10 % 10) ∷ (48 + n % 10) ∷ []
 
--- the last four
+-- the last four digits of a number
 abbrev pub four_digits : ℕ → List ℕ
 four_digits n = two_digits (n / 100) ++ two_digits n
 
--- the last six
+-- the last six digits of a number
 abbrev pub six_digits : ℕ → List ℕ
 six_digits n = two_digits (n / 10000) ++ four_digits n
 
 -- the hour, the minute and the second of a second of the day, with colons between them
 abbrev pub clock_text : ℕ → List ℕ
 clock_text second =
-    two_digits (second / 3600) ++ codes ":" ++ two_digits (second / 60 % 60) ++ codes ":" ++ two_digits (second % 60)
+    two_digits (second / 3600) ++ codes ":" ++ two_digits (second / 60 % 60) ++ codes ":"
+    ++ two_digits (second % 60)
 
 -- the days of a week by their first three letters, from Thursday on
 abbrev pub weekday_names : List (List ℕ)

@@ -16,8 +16,10 @@ NoOtherDate = (number : ℕ) (date : ℕ × ℕ × ℕ) → IsDateOf number date
 
 -- moments up to the end of the year 9999 that Subversion writes alike are the same
 abbrev pub IsoTextsDiffer : Type 0
-IsoTextsDiffer = (a b : ℕ) → a ≤ 253402300799999999 → b ≤ 253402300799999999 → iso_text a ≡ iso_text b → a ≡ b
+IsoTextsDiffer = (a b : ℕ) → a ≤ 253402300799999999 → b ≤ 253402300799999999
+    → iso_text a ≡ iso_text b → a ≡ b
 
 -- moments up to the end of the year 9999 that HTTP writes alike lie in the same second
 abbrev pub HttpTextsDiffer : Type 0
-HttpTextsDiffer = (a b : ℕ) → a ≤ 253402300799999999 → b ≤ 253402300799999999 → http_text a ≡ http_text b → a / 1000000 ≡ b / 1000000
+HttpTextsDiffer = (a b : ℕ) → a ≤ 253402300799999999 → b ≤ 253402300799999999
+    → http_text a ≡ http_text b → a / 1000000 ≡ b / 1000000

@@ -1,4 +1,4 @@
-ghost use Rattle.std.specs.Prelude.{◌≡◌};
+ghost use Rattle.std.specs.Prelude.{◌≡◌, ◌/◌, ◌≤◌};
 ghost use Rattle.dsv_dates.specs.Dates.{iso_text, http_text};
 
 use crate::calendar::date_of;
@@ -15,7 +15,7 @@ pub fn iso_text(moment: Moment) -> [u8; 27]
     ensures { result ≡ iso_text moment }
 {
     let micros = moment.get();
-    let seconds = micros / 1_000_000;
+    let seconds = seconds_of(moment);
     let date = date_of((seconds / DAY) as u32);
     let year = four_digits(date.year);
     let month = two_digits(date.month);
@@ -34,7 +34,7 @@ pub fn iso_text(moment: Moment) -> [u8; 27]
 pub fn http_text(moment: Moment) -> [u8; 29]
     ensures { result ≡ http_text moment }
 {
-    let seconds = moment.get() / 1_000_000;
+    let seconds = seconds_of(moment);
     let number = (seconds / DAY) as u32;
     let date = date_of(number);
     let weekday = weekday_name(number);
@@ -47,4 +47,12 @@ pub fn http_text(moment: Moment) -> [u8; 29]
         month[2], b' ', year[0], year[1], year[2], year[3], b' ', clock[0], clock[1], clock[2],
         clock[3], clock[4], clock[5], clock[6], clock[7], b' ', b'G', b'M', b'T',
     ]
+}
+
+/// The whole seconds that have passed since the start of 1970.
+fn seconds_of(moment: Moment) -> u64
+    ensures value { result ≡ moment / 1000000 }
+    ensures bound { result ≤ 253402300799 }
+{
+    moment.get() / 1_000_000
 }

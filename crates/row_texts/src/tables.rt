@@ -39,10 +39,7 @@ const TABLES: [(&str, Table); 30] = [
     ("joined path", Table::Path(PathTable::Joined)),
     ("revision", Table::Path(PathTable::Revision)),
     ("moment", Table::Path(PathTable::Moment)),
-    (
-        "date as Subversion writes it",
-        Table::Date(DateTable::Iso),
-    ),
+    ("date as Subversion writes it", Table::Date(DateTable::Iso)),
     ("date as HTTP writes it", Table::Date(DateTable::Http)),
     ("source", Table::Object(ObjectTable::Source)),
     ("sink", Table::Object(ObjectTable::Sink)),
