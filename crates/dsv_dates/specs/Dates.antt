@@ -34,21 +34,21 @@ IsDate year month day =
     × ((1 ≤ day) × (day ≤ month_days year month))
 
 -- the number of the part that a place lies in and the place within that part, where parts of these sizes stand one
--- behind another, the first has the given number, and the last is at most so many later
+-- behind another: the first has the given number, and the last, which is so many later, has no end
 unfoldable pub part_at : (ℕ → ℕ) → ℕ → ℕ → ℕ → ℕ × ℕ
 part_at size zero first place = (first, place)
 part_at size (suc more) first place =
     if nat_lt place (size first) then (first, place) else part_at size more (suc first) (place - size first)
 
--- the year of the day with this number, and how many days of the year have passed
+-- the year of the day with this number, where that is one from 1970 to 9999, and how many days of it have passed
 abbrev pub year_at : ℕ → ℕ × ℕ
 year_at number = part_at year_days 8029 1970 number
 
--- the month of the day before which so many days of the year have passed, and how many of the month have
+-- the month of the day before which so many days of this year have passed, and how many days of it have passed
 abbrev pub month_at : ℕ → ℕ → ℕ × ℕ
 month_at year passed = part_at (month_days year) 11 1 passed
 
--- the date of the day before which so many days of the month have passed
+-- the date of a day, from its year, and from its month and how many days of that have passed
 abbrev pub date_in : ℕ → ℕ × ℕ → ℕ × ℕ × ℕ
 date_in year month = (year, month.0, month.1 + 1)
 
@@ -79,7 +79,7 @@ abbrev pub weekday_names : List (List ℕ)
 weekday_names =
     codes "Thu" ∷ codes "Fri" ∷ codes "Sat" ∷ codes "Sun" ∷ codes "Mon" ∷ codes "Tue" ∷ codes "Wed" ∷ []
 
--- the weekday of the day with this number: 1 January 1970, whose number is 0, was a Thursday
+-- the name of the weekday of the day with this number: 1 January 1970, whose number is 0, was a Thursday
 abbrev pub weekday_name : ℕ → List ℕ
 weekday_name number = slice_index_or weekday_names (number % 7) []
 
@@ -89,7 +89,7 @@ month_names =
     codes "Jan" ∷ codes "Feb" ∷ codes "Mar" ∷ codes "Apr" ∷ codes "May" ∷ codes "Jun"
     ∷ codes "Jul" ∷ codes "Aug" ∷ codes "Sep" ∷ codes "Oct" ∷ codes "Nov" ∷ codes "Dec" ∷ []
 
--- the name of a month, the first of which is 1
+-- the name of a month from 1 to 12
 abbrev pub month_name : ℕ → List ℕ
 month_name month = slice_index_or month_names (month - 1) []
 
@@ -113,10 +113,10 @@ http_written number date second =
     weekday_name number ++ codes ", " ++ two_digits date.2 ++ codes " " ++ month_name date.1 ++ codes " "
     ++ four_digits date.0 ++ codes " " ++ clock_text second ++ codes " GMT"
 
--- a moment, in microseconds since the start of 1970, as Subversion writes it
+-- a moment, in microseconds since the start of 1970, as Subversion writes it: date and time of day, in UTC
 unfoldable pub iso_text : ℕ → List ℕ
 iso_text micros = iso_written (date_at (moment_day micros)) (moment_second micros) (micros % 1000000)
 
--- the second of a moment as HTTP writes it
+-- the second that a moment lies in, as HTTP writes it: weekday, date and time of day, in UTC
 unfoldable pub http_text : ℕ → List ℕ
 http_text micros = http_written (moment_day micros) (date_at (moment_day micros)) (moment_second micros)

@@ -2,7 +2,7 @@
 use Rattle.std.specs.Prelude.{◌≡◌, ℕ, ◌≤◌, ◌/◌}
 use Rattle.dsv_dates.specs.Dates.{IsDate, day_number, date_at, iso_text, http_text}
 
--- a date of the calendar is that of the day with this number
+-- this is a date of the calendar, and that of the day with this number
 abbrev pub IsDateOf : ℕ → ℕ × ℕ × ℕ → Type 0
 IsDateOf number date = IsDate date.0 date.1 date.2 × (day_number date.0 date.1 date.2 ≡ number)
 
@@ -10,7 +10,7 @@ IsDateOf number date = IsDate date.0 date.1 date.2 × (day_number date.0 date.1 
 abbrev pub EachDayIsDated : Type 0
 EachDayIsDated = (number : ℕ) → number ≤ 2932896 → IsDateOf number (date_at number)
 
--- and it has no other
+-- no date of the calendar but the one that `date_at` tells is that of the day with this number
 abbrev pub NoOtherDate : Type 0
 NoOtherDate = (number : ℕ) (date : ℕ × ℕ × ℕ) → IsDateOf number date → date_at number ≡ date
 
