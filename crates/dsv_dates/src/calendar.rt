@@ -44,8 +44,9 @@ fn year_of(number: u32) -> (u32, u32)
     (years + 1, passed - days_before(years))
 }
 
-/// How many whole years have passed since the start of the year 1. A year has 365.2425 days on average,
-/// and none begins more than two days before the average says, nor later than that.
+/// How many whole years have passed since the start of the year 1. A year has 365.2425 days on average, and
+/// none begins a whole day later or two days earlier than that says: so the guess by it is right, or one year
+/// short.
 fn years_in(passed: u32) -> u32
     requires { passed < 3652059 }
     ensures begun { days_before result ≤ passed }
