@@ -2,6 +2,7 @@
 //! table what is answered to a row.
 #![tactic(auto)]
 
+mod dates;
 mod documents;
 mod outside;
 mod paths;

@@ -1,3 +1,4 @@
+use crate::dates::{DateTable, answer_date};
 use crate::documents::{DocumentTable, answer_document};
 use crate::outside::{ObjectTable, answer_object};
 use crate::paths::{PathTable, answer_path};
@@ -11,6 +12,7 @@ use row_files::{Answer, Given, named};
 enum Table {
     Text(TextTable),
     Path(PathTable),
+    Date(DateTable),
     Object(ObjectTable),
     Document(DocumentTable),
     Target(TargetTable),
@@ -18,7 +20,7 @@ enum Table {
 }
 
 /// The tables by name.
-const TABLES: [(&str, Table); 28] = [
+const TABLES: [(&str, Table); 30] = [
     ("text in XML", Table::Text(TextTable::InXml)),
     ("text that XML can hold", Table::Text(TextTable::Plain)),
     ("line", Table::Text(TextTable::Line)),
@@ -37,6 +39,8 @@ const TABLES: [(&str, Table); 28] = [
     ("joined path", Table::Path(PathTable::Joined)),
     ("revision", Table::Path(PathTable::Revision)),
     ("moment", Table::Path(PathTable::Moment)),
+    ("date as Subversion writes it", Table::Date(DateTable::Iso)),
+    ("date as HTTP writes it", Table::Date(DateTable::Http)),
     ("source", Table::Object(ObjectTable::Source)),
     ("sink", Table::Object(ObjectTable::Sink)),
     ("files", Table::Object(ObjectTable::Files)),
@@ -57,6 +61,7 @@ pub fn answer(table: &str, given: &Given<'_>, out: &mut Answer) -> bool {
     match named(&TABLES, table) {
         Some(Table::Text(table)) => answer_text(table, given, out),
         Some(Table::Path(table)) => answer_path(table, given, out),
+        Some(Table::Date(table)) => answer_date(table, given, out),
         Some(Table::Object(table)) => answer_object(table, given, out),
         Some(Table::Document(table)) => answer_document(table, given, out),
         Some(Table::Target(table)) => answer_target(table, given, out),
