@@ -13,7 +13,11 @@ pub fn put_draft(trees: &Trees, base: Rev, given: &Given<'_>, out: &mut Answer)
     requires { base < length trees.now.revisions }
 {
     match (given.revision(2), given.path(3)) {
-        (Some(rev), Some(path)) if rev <= trees.youngest() => match Draft::on(given.alloc, trees, base) {
+        (Some(rev), Some(path)) if rev <= trees.youngest() => match Draft::on(
+            given.alloc,
+            trees,
+            base,
+        ) {
             Ok(draft) => {
                 let draft = tried(trees, draft, trees.commit_of(rev).changes.get(), out);
                 put_seen(draft.look(trees, &path), out);
