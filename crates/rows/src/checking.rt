@@ -1,6 +1,5 @@
 use crate::run_rows::check_run;
-use crate::run_tables::check_runs;
-use crate::tables::check_table;
+use crate::tables::{About, check_table};
 use crate::talks::check_talk;
 use anyhow::{Context, Result, bail};
 use row_files::{Block, Book, Report, Row, blocks_of, expand};
@@ -69,8 +68,8 @@ fn check_row(alloc: Global, book: &Book, kind: &str, row: &Row, report: &mut Rep
         "setting" => Ok(()),
         "run" => report.count(row.name.as_str(), check_run(alloc, book, row)?),
         "talk" => report.count(row.name.as_str(), check_talk(alloc, book, row)?),
-        "runs" => check_runs(alloc, book, row, report),
-        "table" => check_table(alloc, book, row, report),
+        "runs" => check_table(alloc, book, About::Run, row, report),
+        "table" => check_table(alloc, book, About::Call, row, report),
         _ => bail!("no such kind: {kind}"),
     }
 }

@@ -1,33 +1,17 @@
 use crate::run_rows::check_run;
-use anyhow::{Context, Result, bail};
-use row_files::{Book, Line, Report, Row, filled};
+use anyhow::{Result, bail};
+use row_files::{Book, Line, Row, filled};
 use std::alloc::Global;
 
-/// Checks rows of `run` that differ in one line: what is given stands for the line that the table says
-/// by `vary`, and what is wanted for the one that it says by `tell`.
-pub fn check_runs(alloc: Global, book: &Book, table: &Row, report: &mut Report) -> Result<()> {
-    'rows: for line in &table.lines {
-        if line.key.as_str() == "-" {
-            check_row(alloc, book, table, line, report)?;
-        }
-    }
-    Ok(())
-}
-
-fn check_row(
+/// Where a row of `run` differs from what it wants, if anywhere. It differs from the others of its table
+/// in one line: what is given stands for the line that the table says by `vary`, and what is wanted for
+/// the one that it says by `tell`.
+pub fn check_varied(
     alloc: Global,
     book: &Book,
     table: &Row,
     line: &Line,
-    report: &mut Report,
-) -> Result<()> {
-    let number = line.number;
-    let name = format!(in alloc; "{}, line {number}", table.name)?;
-    let difference = check_line(alloc, book, table, line).context(name.as_str())?;
-    report.count(name.as_str(), difference)
-}
-
-fn check_line(alloc: Global, book: &Book, table: &Row, line: &Line) -> Result<Option<String>> {
+) -> Result<Option<String>> {
     let row = varied(alloc, table, line)?;
     check_run(alloc, book, &row)
 }

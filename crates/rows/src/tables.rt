@@ -1,12 +1,28 @@
+use crate::run_tables::check_varied;
 use anyhow::{Context, Result, bail};
 use row_files::{Answer, Book, Given, Line, Report, Row, difference, expand, filled};
 use std::alloc::Global;
 
-/// Checks the rows of a table, whose name says what is asked.
-pub fn check_table(alloc: Global, book: &Book, table: &Row, report: &mut Report) -> Result<()> {
+/// What the rows of a table are about.
+#[derive(Clone, Copy)]
+pub enum About {
+    /// One call, which the table's name says.
+    Call,
+    /// Runs that differ in one line.
+    Run,
+}
+
+/// Checks the rows of a table.
+pub fn check_table(
+    alloc: Global,
+    book: &Book,
+    about: About,
+    table: &Row,
+    report: &mut Report,
+) -> Result<()> {
     'rows: for line in &table.lines {
         if line.key.as_str() == "-" {
-            check_row(alloc, book, table, line, report)?;
+            check_row(alloc, book, about, table, line, report)?;
         }
     }
     Ok(())
@@ -15,18 +31,32 @@ pub fn check_table(alloc: Global, book: &Book, table: &Row, report: &mut Report)
 fn check_row(
     alloc: Global,
     book: &Book,
+    about: About,
     table: &Row,
     line: &Line,
     report: &mut Report,
 ) -> Result<()> {
     let number = line.number;
     let name = format!(in alloc; "{}, line {number}", table.name)?;
-    let difference = check_line(alloc, book, table, line).context(name.as_str())?;
+    let difference = difference_in(alloc, book, about, table, line).context(name.as_str())?;
     report.count(name.as_str(), difference)
 }
 
+fn difference_in(
+    alloc: Global,
+    book: &Book,
+    about: About,
+    table: &Row,
+    line: &Line,
+) -> Result<Option<String>> {
+    match about {
+        About::Call => check_call(alloc, book, table, line),
+        About::Run => check_varied(alloc, book, table, line),
+    }
+}
+
 /// Where a row differs, `GIVEN => WANTED` with ` | ` between the columns of each, if anywhere.
-fn check_line(alloc: Global, book: &Book, table: &Row, line: &Line) -> Result<Option<String>> {
+fn check_call(alloc: Global, book: &Book, table: &Row, line: &Line) -> Result<Option<String>> {
     let Some((given, wanted)) = line.value.split_once(" => ") else {
         bail!("not a row `- GIVEN => WANTED`");
     };
