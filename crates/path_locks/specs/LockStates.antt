@@ -22,7 +22,7 @@ lock_at path state = find (slice_cmp nat_cmp) path state.locks
 
 -- a lock put at its path, in place of one that stands there
 abbrev pub with_lock : Lock → LockState → LockState
-with_lock lock state = record { locks = put (slice_cmp nat_cmp) lock.path lock state.locks }
+with_lock lock state = record state { locks = put (slice_cmp nat_cmp) lock.path lock state.locks }
 
 -- the locks at a path or below it, in byte order of their paths
 abbrev pub locks_under : List ℕ → LockState → List Lock
