@@ -1,0 +1,2 @@
+pub mod LockStates
+pub mod Kept
