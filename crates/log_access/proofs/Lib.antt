@@ -1,1 +1,3 @@
+pub mod LevelLaws
+mod Rows
 pub mod ShownNodes
