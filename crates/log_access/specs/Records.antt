@@ -8,7 +8,7 @@ use Rattle.log_access.specs.declared.level.Level.{Level}
 use Rattle.log_access.specs.declared.level.Level.TheVariants as levels
 use Rattle.log_access.specs.Levels.{reads_path, level_of, shows_props, shows_author}
 
--- the source of a copy is shown only where it is readable
+-- the source of a copy as it is shown: itself where it is readable, and else none
 abbrev pub shown_source : (List ℕ → Bool) → Option (List ℕ × ℕ) → Option (List ℕ × ℕ)
 shown_source reads source = option_and_then (λ from. if reads from.0 then Some from else None) source
 
@@ -34,7 +34,8 @@ pub record ShownRecord : Type 0 where
   pub moment : Option ℕ
   pub paths : List Changed
 
--- what a level shows of the record of a commit that changed these paths
+-- what a level shows of the record of a commit that changed these paths: the level, the properties where it shows them,
+-- the author, if the commit has one, and the moment where it shows these, and the readable paths as they are shown
 abbrev pub record_at : Level → (List ℕ → Bool) → Commit → List Changed → ShownRecord
 record_at level reads commit changed = record {
   level = level;
@@ -44,10 +45,10 @@ record_at level reads commit changed = record {
   paths = shown_paths reads changed;
 }
 
--- the record of a commit that changed these paths, as it is shown: what its level shows of it
+-- the record of a commit that changed these paths, as it is shown: what its own level shows of it
 unfoldable pub shown_record : (List ℕ → Bool) → Commit → List Changed → ShownRecord
 shown_record reads commit changed = record_at (level_of reads changed) reads commit changed
 
--- the record past the youngest revision: nothing
+-- the record of which nothing is shown: level none, no property, no author, no moment and no path
 abbrev pub no_record : ShownRecord
 no_record = record { level = levels.None; props = []; author = None; moment = None; paths = [] }

@@ -33,7 +33,8 @@ pub record ShownRevision : Type 0 where
   pub hidden : List (List ℕ × Kind)
   pub log : ShownRecord
 
--- a revision, as it is shown
+-- a revision, as it is shown: its readable nodes as they are shown, the unreadable children of readable directories by
+-- path and kind, and its record as its level shows it
 abbrev pub shown_revision : (List ℕ → Bool) → Revision → ShownRevision
 shown_revision reads revision = record {
   nodes = shown_nodes reads revision.tree;
@@ -61,7 +62,7 @@ shown_of repository rules user = record {
   revisions = map (shown_revision (can_read rules repository.name user)) repository.revisions;
 }
 
--- past the youngest revision nothing is shown
+-- what is shown past the youngest revision: no node, no name, and nothing of a record
 abbrev pub shown_nothing : ShownRevision
 shown_nothing = record { nodes = []; hidden = []; log = no_record }
 
@@ -73,6 +74,6 @@ nodes_in shown rev = (slice_index_or shown.revisions rev shown_nothing).nodes
 abbrev pub node_in : Shown → ℕ → List ℕ → Option TreeNode
 node_in shown rev path = at path (nodes_in shown rev)
 
--- the shown record of a revision
+-- the shown record of a revision, which past the youngest is that of nothing
 abbrev pub record_in : Shown → ℕ → ShownRecord
 record_in shown rev = (slice_index_or shown.revisions rev shown_nothing).log
