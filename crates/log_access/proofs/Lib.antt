@@ -1,1 +1,4 @@
+pub mod LevelLaws
+mod Rows
 pub mod ShownNodes
+pub mod ShownRecords

@@ -3,6 +3,7 @@
 #![tactic(auto)]
 
 mod drafts;
+mod levels;
 mod messages;
 mod nodes;
 mod reading;

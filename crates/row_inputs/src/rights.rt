@@ -84,7 +84,8 @@ fn policy_of(given: &Given<'_>) -> Option<Policy> {
     Policy::new(given.alloc, &rules, repository.as_slice()).ok()
 }
 
-fn rules_in(given: &Given<'_>) -> Option<Rules> {
+/// The table's rules.
+pub fn rules_in(given: &Given<'_>) -> Option<Rules> {
     let file = given.setting("rules")?;
     rules_of(given.alloc, file.as_slice()).ok()
 }

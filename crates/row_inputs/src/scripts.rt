@@ -1,6 +1,7 @@
 ghost use Rattle.std.specs.Prelude.{length, ◌<◌};
 
 use crate::drafts::put_draft;
+use crate::levels::put_level;
 use crate::nodes::{put_changes, put_checksum, put_line, put_node};
 use crate::reading::trees_of;
 use dsv_base::Rev;
@@ -21,6 +22,7 @@ pub enum ScriptTable {
     Checksum,
     Nodes,
     Draft,
+    Level,
 }
 
 /// Answers a row of such a table; the line of a script that isn't taken.
@@ -90,6 +92,7 @@ fn answer_of_revision(
         ScriptTable::Changed => put_changes(trees.changed(rev), out),
         ScriptTable::Checksum => put_checksum(given.alloc, trees, rev, given.path(2), out),
         ScriptTable::Draft => put_draft(trees, rev, given, out),
+        ScriptTable::Level => put_level(trees.name(), trees.changed(rev), given, out),
         _ => put_line(trees, rev, given.path(2), out),
     }
 }

@@ -12,7 +12,7 @@ enum Table {
 }
 
 /// The tables by name.
-const TABLES: [(&str, Table); 17] = [
+const TABLES: [(&str, Table); 18] = [
     ("script", Table::Script(ScriptTable::Script)),
     ("repository", Table::Script(ScriptTable::Repository)),
     ("written revisions", Table::Script(ScriptTable::Written)),
@@ -22,6 +22,7 @@ const TABLES: [(&str, Table); 17] = [
     ("checksum", Table::Script(ScriptTable::Checksum)),
     ("nodes", Table::Script(ScriptTable::Nodes)),
     ("draft", Table::Script(ScriptTable::Draft)),
+    ("level", Table::Script(ScriptTable::Level)),
     ("rules", Table::Right(RightTable::Rules)),
     ("rights", Table::Right(RightTable::Rights)),
     ("messages", Table::Message(MessageTable::Messages)),
