@@ -1,0 +1,5 @@
+pub mod Takes
+pub mod Names
+pub mod Bindings
+pub mod Opening
+pub mod Growing

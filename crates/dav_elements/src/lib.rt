@@ -1,0 +1,28 @@
+//! Elements of a document while it is read: their names with namespaces, what a start tag opens, and
+//! the elements that are open.
+#![tactic(auto)]
+
+mod attrs;
+mod around;
+mod binding;
+mod bound;
+mod distinct;
+mod elem;
+mod frame;
+mod growing;
+mod name_parts;
+mod names;
+mod opening;
+mod progress;
+mod tag;
+mod unread;
+
+pub use around::Around;
+pub use bound::{Bound, Bounds};
+pub use elem::{Attr, Elem, Part};
+pub use frame::{Frame, Opened, Scope};
+pub use growing::{declare, enter, leave, pushed, refer, say};
+pub use names::{begins_name, is_white};
+pub use progress::Progress;
+pub use tag::{Raw, Tag};
+pub use unread::Unread;
