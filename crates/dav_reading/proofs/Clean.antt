@@ -4,7 +4,8 @@ use Rattle.std.proofs.lemmas.List.{take_at, drop_at, get_or_at}
 use Rattle.std.proofs.lemmas.List.Folds.{list_all-append}
 use Rattle.std.proofs.lemmas.Bool.Decides.{nat_tests}
 use Rattle.std.proofs.lemmas.Str.{IsUtf8-append, IsUtf8-from_ascii, IsUtf8-take, IsUtf8-drop, IsCharBoundary-before_ascii, IsCharBoundary-after_ascii, IsUtf8-from_is_utf8, is_utf8-from_IsUtf8}
-use Rattle.std.specs.List.{flat_map, list_all, pointwise}
+use Rattle.std.specs.List.{flat_map, list_all}
+use Rattle.std.specs.Cmp.Lexicographic.{pointwise}
 use Rattle.std.specs.Str.{IsUtf8, IsAscii, is_utf8}
 use Rattle.dsv_base.specs.Paths.{has_noncharacter}
 use Rattle.dsv_base.specs.Escapes.{xml_escape, xml_text, is_xml_byte, xml_plain}
@@ -12,6 +13,7 @@ use Rattle.dav_documents.specs.Plain.{begins_name, is_written_name_byte, is_writ
 use Rattle.dav_documents.specs.Written.{Attribute, Written, Nothing, Element, attribute_text, after_attributes, element_text, written_text, declaration, page_text, body_text, is_plain_attribute, is_plain}
 use Rattle.dav_reading.specs.LineEnds.{lines_joined}
 use Rattle.dav_reading.proofs.Steps.{both, by_test, same_number}
+use Rattle.dav_reading.proofs.Spelling.{attribute_spelled, inside_spelled, element_spelled}
 
 abbrev is_line_byte : ℕ → Bool
 is_line_byte b = nat_le 32 b || nat_eq b 9 || nat_eq b 10
@@ -276,7 +278,7 @@ none = clean [] refl refl refl
 -- trees
 low-attributes : (attributes : List Attribute) (rest : List ℕ) → begins_low rest ≡ true → begins_low (flat_map attribute_text attributes ++ rest) ≡ true
 low-attributes [] rest h = h
-low-attributes (a ∷ more) rest h = refl
+low-attributes (a ∷ others) rest h = refl
 
 low-inside : (name content : List ℕ) → begins_low (after_attributes name content) ≡ true
 low-inside name [] = refl
@@ -296,7 +298,7 @@ clean-after xs ys l f g = record {
 
 low-all : (attributes : List Attribute) → begins_low (flat_map attribute_text attributes) ≡ true
 low-all [] = refl
-low-all (a ∷ more) = refl
+low-all (a ∷ others) = refl
 
 clean-attributes : (attributes : List Attribute) → list_all is_plain_attribute attributes ≡ true → Clean (flat_map attribute_text attributes)
 clean-attributes [] h = none
@@ -304,15 +306,16 @@ clean-attributes (a ∷ attributes) h =
     let p = both (is_plain_attribute a) (list_all is_plain_attribute attributes) h in
     let q = both (is_written_name a.name) (xml_plain a.value) p.0 in
     clean-append (attribute_text a) (flat_map attribute_text attributes) (low-all attributes)
+    (subst Clean (sym (attribute_spelled a.name a.value))
     (clean-after (32 ∷ []) (a.name ++ 61 ∷ 34 ∷ (xml_text a.value ++ 34 ∷ [])) refl blank
     (clean-append a.name (61 ∷ 34 ∷ (xml_text a.value ++ 34 ∷ [])) refl (clean-name a.name q.0)
-    (clean-after (61 ∷ 34 ∷ []) (xml_text a.value ++ 34 ∷ []) refl open_quote (clean-append (xml_text a.value) (34 ∷ []) refl (clean-escaped a.value q.1) close_quote))))
+    (clean-after (61 ∷ 34 ∷ []) (xml_text a.value ++ 34 ∷ []) refl open_quote (clean-append (xml_text a.value) (34 ∷ []) refl (clean-escaped a.value q.1) close_quote)))))
     (clean-attributes attributes p.1)
 
 clean-inside : (name content : List ℕ) → Clean name → Clean content → Clean (after_attributes name content)
 clean-inside name [] n c = empty_end
-clean-inside name (b ∷ bs) n c = clean-after (62 ∷ []) (b ∷ bs ++ (60 ∷ 47 ∷ (name ++ 62 ∷ []))) refl more
-    (clean-append (b ∷ bs) (60 ∷ 47 ∷ (name ++ 62 ∷ [])) refl c (clean-after (60 ∷ 47 ∷ []) (name ++ 62 ∷ []) refl end_mark (clean-append name (62 ∷ []) refl n more)))
+clean-inside name (b ∷ bs) n c = subst Clean (sym (inside_spelled name b bs)) (clean-after (62 ∷ []) (b ∷ bs ++ (60 ∷ 47 ∷ (name ++ 62 ∷ []))) refl more
+    (clean-append (b ∷ bs) (60 ∷ 47 ∷ (name ++ 62 ∷ [])) refl c (clean-after (60 ∷ 47 ∷ []) (name ++ 62 ∷ []) refl end_mark (clean-append name (62 ∷ []) refl n more))))
 
 clean-written : (w : Written) → is_plain w ≡ true → Clean (written_text w)
 clean-written Nothing h = none
@@ -323,10 +326,11 @@ clean-written (Element name attributes text inside rest) h =
     let h4 = both (is_written_name name) (list_all is_plain_attribute attributes) h3.0 in
     let content = xml_text text ++ written_text inside in
     clean-append (element_text name attributes content) (written_text rest) (low-written rest)
+    (subst Clean (sym (element_spelled name content attributes))
     (clean-after (60 ∷ []) (name ++ (flat_map attribute_text attributes ++ after_attributes name content)) refl less
     (clean-append name (flat_map attribute_text attributes ++ after_attributes name content) (low-attributes attributes (after_attributes name content) (low-inside name content)) (clean-name name h4.0)
     (clean-append (flat_map attribute_text attributes) (after_attributes name content) (low-inside name content) (clean-attributes attributes h4.1)
-    (clean-inside name content (clean-name name h4.0) (clean-append (xml_text text) (written_text inside) (low-written inside) (clean-escaped text h3.1) (clean-written inside h2.1))))))
+    (clean-inside name content (clean-name name h4.0) (clean-append (xml_text text) (written_text inside) (low-written inside) (clean-escaped text h3.1) (clean-written inside h2.1)))))))
     (clean-written rest h1.1)
 
 pub clean-body : (w : Written) → is_plain w ≡ true → Clean (body_text w)

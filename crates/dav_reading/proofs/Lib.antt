@@ -1,3 +1,4 @@
 mod Steps
+mod Spelling
 mod Clean
 mod TreesRead

@@ -29,6 +29,7 @@ use Rattle.dav_reading.specs.Modes.{read_bytes}
 use Rattle.dav_reading.specs.Documents.{reader_at_start, answer_at_end, document_in, document}
 use Rattle.dav_reading.specs.WrittenTrees.{read_attribute, read_tag, elem_with, parts_written, elem_written}
 use Rattle.dav_reading.proofs.Steps.{placed_in, then_in, both, read_on, took, naming, keying, closing_name, value_read, text_read, texted}
+use Rattle.dav_reading.proofs.Spelling.{attribute_spelled, inside_spelled, element_spelled}
 use Rattle.dav_reading.proofs.Clean.{name_of, no_empty_name, name_bytes, clean-body, clean-plain, lines_joined-clean}
 
 -- an attribute
@@ -42,7 +43,7 @@ key_read progress tag c cs rest h =
 
 attribute_read : (progress : Progress) (tag : Tag) (name value : List ℕ) → is_written_name name ≡ true → read_bytes (placed_in (Behind tag) progress) (attribute_text (record { name = name; value = value })) ≡ then_in (Behind (with_raws tag (read_attribute (record { name = name; value = value }) ∷ []))) progress
 attribute_read progress tag [] value h = absurd (no_empty_name h)
-attribute_read progress tag (c ∷ cs) value h = key_read progress tag c cs (61 ∷ 34 ∷ (xml_text value ++ 34 ∷ [])) h ∙ read_on _ _ (xml_text value) (34 ∷ []) (value_read progress tag (c ∷ cs) [] value)
+attribute_read progress tag (c ∷ cs) value h = ap (read_bytes (placed_in (Behind tag) progress)) (attribute_spelled (c ∷ cs) value) ∙ key_read progress tag c cs (61 ∷ 34 ∷ (xml_text value ++ 34 ∷ [])) h ∙ read_on _ _ (xml_text value) (34 ∷ []) (value_read progress tag (c ∷ cs) [] value)
 
 attributes_read : (progress : Progress) (tag : Tag) (attributes : List Attribute) → list_all is_plain_attribute attributes ≡ true → read_bytes (placed_in (Behind tag) progress) (flat_map attribute_text attributes) ≡ then_in (Behind (with_raws tag (map read_attribute attributes))) progress
 attributes_read progress tag [] h = ap (λ l. then_in (Behind (record { name = tag.name; attrs = l })) progress) (sym (append-nil tag.attrs))
@@ -70,7 +71,7 @@ name_read progress (c ∷ cs) rest h =
 
 tag_read : (progress : Progress) (name content : List ℕ) (attributes : List Attribute) → is_written_name name ≡ true → list_all is_plain_attribute attributes ≡ true
     → read_bytes (placed_in Content progress) (element_text name attributes content) ≡ read_bytes (placed_in (Behind (read_tag name attributes)) progress) (after_attributes name content)
-tag_read progress name content attributes h r = name_read progress name (flat_map attribute_text attributes ++ after_attributes name content) h ∙ turn progress name content attributes
+tag_read progress name content attributes h r = ap (read_bytes (placed_in Content progress)) (element_spelled name content attributes) ∙ name_read progress name (flat_map attribute_text attributes ++ after_attributes name content) h ∙ turn progress name content attributes
     ∙ read_on (placed_in (Behind (bare name)) progress) _ (flat_map attribute_text attributes) (after_attributes name content) (attributes_read progress (bare name) attributes r)
 
 -- an end tag
@@ -100,7 +101,7 @@ element_read progress name [] attributes f g around h r e same inner =
     tag_read progress name [] attributes h r ∙ slash_read progress (read_tag name attributes) g around (e ∙ ap Some w) same
 element_read progress name (b ∷ bs) attributes f g around h r e same inner =
     let h' : is_written_name g.raw ≡ true = subst (λ n. is_written_name n ≡ true) same h in
-    tag_read progress name (b ∷ bs) attributes h r ∙ rw (e, same) (read_on (placed_in Content (Within f around)) _ (b ∷ bs) (60 ∷ 47 ∷ (g.raw ++ 62 ∷ [])) inner ∙ end_read g around h')
+    tag_read progress name (b ∷ bs) attributes h r ∙ ap (read_bytes (placed_in (Behind (read_tag name attributes)) progress)) (inside_spelled name b bs) ∙ rw (e, same) (read_on (placed_in Content (Within f around)) _ (b ∷ bs) (60 ∷ 47 ∷ (g.raw ++ 62 ∷ [])) inner ∙ end_read g around h')
 
 -- the elements that follow each other in an element
 abbrev with_parts : Frame → List Part → Frame
