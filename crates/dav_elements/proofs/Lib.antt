@@ -1,1 +1,2 @@
 mod TagAttrs
+mod Seen

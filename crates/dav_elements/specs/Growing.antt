@@ -1,5 +1,5 @@
 -- The elements that are open while a document is read, and what tags and texts do to them.
-use Rattle.std.specs.Prelude.{ℕ, Bool, true, false, cond, List, [], ◌∷◌, ◌++◌, Option, Some, None, option_map}
+use Rattle.std.specs.Prelude.{ℕ, true, false, cond, List, [], ◌∷◌, ◌++◌, Option, Some, None, option_map}
 use Rattle.std.specs.Str.{bytes_eq}
 use Rattle.dav_elements.specs.declared.elem.Part.{Part, Text, Child}
 use Rattle.dav_elements.specs.declared.elem.Elem.{Elem}

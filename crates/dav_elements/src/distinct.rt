@@ -1,50 +1,43 @@
-ghost use Rattle.std.specs.Prelude.{◌≡◌};
-ghost use Rattle.std.specs.List.{list_any};
+ghost use Rattle.std.specs.Prelude.{◌≡◌, IfOk};
 ghost use Rattle.dav_elements.specs.Names.{are_distinct};
 ghost use Rattle.dav_elements.specs.Opening.{same_key, same_attr};
 
 use crate::elem::Attr;
 use crate::tag::Raw;
+use dsv_base::NoMemory;
+use std::alloc::Global;
+use std::collections::BTreeSet;
 
-/// Whether no two attributes have the same name as it is written.
+/// Whether no two attributes have the same name as it is written. Its one error is want of memory.
 #[tactic(auto, unfolding(crate::specs::Names::are_distinct))]
-pub fn are_keys_distinct(raws: &[Raw]) -> bool
-    ensures { result ≡ are_distinct same_key raws.now }
+pub fn are_keys_distinct(alloc: Global, raws: &[Raw]) -> Result<bool, NoMemory>
+    ensures { IfOk result (λ distinct. distinct ≡ are_distinct same_key raws.now) }
 {
-    let mut rest = raws;
-    'raws: while let [raw, others @ ..] = rest {
-        if has_key(raw, others) {
-            return false;
+    let mut seen: BTreeSet<&[u8]> = BTreeSet::new(alloc);
+    let mut left = raws.len();
+    'raws: while left > 0 {
+        left -= 1;
+        let raw = &raws[left];
+        if !seen.insert(raw.key.get())? {
+            return Ok(false);
         }
-        rest = others;
     }
-    true
+    Ok(true)
 }
 
-fn has_key(raw: &Raw, others: &[Raw]) -> bool
-    ensures { result ≡ list_any (same_key raw.now) others.now }
-{
-    others.iter().any(|other| raw.key.get() == other.key.get())
-}
-
-/// Whether no two attributes have the same name with its namespace.
+/// Whether no two attributes have the same name with its namespace. Its one error is want of memory.
 #[tactic(auto, unfolding(crate::specs::Names::are_distinct))]
-pub fn are_names_distinct(attrs: &[Attr]) -> bool
-    ensures { result ≡ are_distinct same_attr attrs.now }
+pub fn are_names_distinct(alloc: Global, attrs: &[Attr]) -> Result<bool, NoMemory>
+    ensures { IfOk result (λ distinct. distinct ≡ are_distinct same_attr attrs.now) }
 {
-    let mut rest = attrs;
-    'attrs: while let [attr, others @ ..] = rest {
-        if has_name(attr, others) {
-            return false;
+    let mut seen: BTreeSet<(&[u8], &[u8])> = BTreeSet::new(alloc);
+    let mut left = attrs.len();
+    'attrs: while left > 0 {
+        left -= 1;
+        let attr = &attrs[left];
+        if !seen.insert((attr.name.space.get(), attr.name.name.get()))? {
+            return Ok(false);
         }
-        rest = others;
     }
-    true
-}
-
-fn has_name(attr: &Attr, others: &[Attr]) -> bool
-    ensures { result ≡ list_any (same_attr attr.now) others.now }
-{
-    others.iter().any(|other| attr.name.space.get() == other.name.space.get()
-        && attr.name.name.get() == other.name.name.get())
+    Ok(true)
 }

@@ -91,10 +91,7 @@ pub fn enter(alloc: Global, progress: Progress, tag: Tag) -> Result<Progress, Un
             let scope = outermost(alloc, nest)?;
             let head = opened_by(alloc, &scope, &tag)?;
             let Tag { name, attrs: _ } = tag;
-            Ok(Progress::Within(
-                fresh(alloc, name, head),
-                Around::none(alloc),
-            ))
+            Ok(Progress::Within(fresh(alloc, name, head), Around::none(alloc)))
         }
         Progress::Within(frame, around) => {
             let mut around = around;

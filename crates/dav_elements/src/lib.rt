@@ -2,8 +2,8 @@
 //! the elements that are open.
 #![tactic(auto)]
 
-mod attrs;
 mod around;
+mod attrs;
 mod binding;
 mod bound;
 mod distinct;

@@ -33,7 +33,7 @@ pub fn opened_by(alloc: Global, scope: &Scope, tag: &Tag) -> Result<Opened, Unre
     if scope.left < 1 {
         return Err(Unread::Bad);
     }
-    if !are_keys_distinct(tag.attrs.get()) {
+    if !are_keys_distinct(alloc, tag.attrs.get())? {
         return Err(Unread::Bad);
     }
     if !are_fair(tag.attrs.get()) {
@@ -49,7 +49,7 @@ fn opened_with(alloc: Global, left: u32, tag: &Tag, spaces: Bounds) -> Result<Op
     let parts = name_parts(alloc, &tag.name)?;
     let name = element_name(alloc, spaces.get(), parts)?;
     let attrs = attrs_from(alloc, spaces.get(), tag.attrs.get())?;
-    if !are_names_distinct(attrs.get()) {
+    if !are_names_distinct(alloc, attrs.get())? {
         return Err(Unread::Bad);
     }
     Ok(Opened {

@@ -70,10 +70,10 @@ clear-append (x ∷ xs) ys l h k =
 
 clean-append : (xs ys : List ℕ) → begins_low ys ≡ true → Clean xs → Clean ys → Clean (xs ++ ys)
 clean-append xs ys l f g = record {
-    utf8 = IsUtf8-append xs ys f.utf8 g.utf8;
-    lines = list_all-append is_line_byte xs ys ∙ and_true (list_all is_line_byte xs) (list_all is_line_byte ys) f.lines g.lines;
-    clear = clear-append xs ys l f.clear g.clear;
-  }
+  utf8 = IsUtf8-append xs ys f.utf8 g.utf8;
+  lines = list_all-append is_line_byte xs ys ∙ and_true (list_all is_line_byte xs) (list_all is_line_byte ys) f.lines g.lines;
+  clear = clear-append xs ys l f.clear g.clear;
+}
 
 -- texts that compute
 low : (b : ℕ) → is_low b ≡ true → b < 128
@@ -291,10 +291,10 @@ low-written (Element name attributes text inside rest) = refl
 -- behind ASCII anything may follow
 clean-after : (xs ys : List ℕ) → list_all is_low xs ≡ true → Clean xs → Clean ys → Clean (xs ++ ys)
 clean-after xs ys l f g = record {
-    utf8 = IsUtf8-append xs ys f.utf8 g.utf8;
-    lines = list_all-append is_line_byte xs ys ∙ and_true (list_all is_line_byte xs) (list_all is_line_byte ys) f.lines g.lines;
-    clear = clear_low xs ys l ∙ g.clear;
-  }
+  utf8 = IsUtf8-append xs ys f.utf8 g.utf8;
+  lines = list_all-append is_line_byte xs ys ∙ and_true (list_all is_line_byte xs) (list_all is_line_byte ys) f.lines g.lines;
+  clear = clear_low xs ys l ∙ g.clear;
+}
 
 low-all : (attributes : List Attribute) → begins_low (flat_map attribute_text attributes) ≡ true
 low-all [] = refl

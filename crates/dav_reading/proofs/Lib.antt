@@ -2,3 +2,4 @@ mod Steps
 mod Spelling
 mod Clean
 mod TreesRead
+mod Slashes

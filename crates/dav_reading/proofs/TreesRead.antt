@@ -3,11 +3,11 @@ use Rattle.std.proofs.Common.{◌≡◌, ℕ, true, false, cond, ◌&&◌, List,
 use Rattle.std.proofs.lemmas.List.{append-nil}
 use Rattle.std.proofs.lemmas.Option.{same_Some}
 use Rattle.std.proofs.lemmas.Bool.Decides.{nat_tests}
-use Rattle.std.specs.Prelude.{option_and_then, option_map, Result, Ok, Err}
+use Rattle.std.specs.Prelude.{option_and_then, option_map, Ok, Err}
 use Rattle.std.specs.List.{flat_map, list_all}
 use Rattle.std.specs.Str.{bytes_eq}
 use Rattle.dsv_base.specs.Escapes.{xml_text, xml_plain}
-use Rattle.dav_documents.specs.Plain.{begins_name, is_written_name_byte, is_written_name}
+use Rattle.dav_documents.specs.Plain.{begins_name, is_written_name}
 use Rattle.dav_documents.specs.Written.{Attribute, Written, Nothing, Element, attribute_text, after_attributes, element_text, written_text, declaration, page_text, body_text, is_plain_attribute, is_plain}
 use Rattle.dav_elements.specs.declared.elem.Part.{Part, Child}
 use Rattle.dav_elements.specs.declared.elem.Elem.{Elem}
@@ -19,7 +19,6 @@ use Rattle.dav_elements.specs.declared.progress.Progress.{Progress}
 use Rattle.dav_elements.specs.declared.progress.Progress.TheVariants.{Before, Within, After}
 use Rattle.dav_elements.specs.Opening.{outermost, opened_by}
 use Rattle.dav_elements.specs.Growing.{enter, leave, frame_closed, fresh, all_parts, with_part, elem_of, text_part}
-use Rattle.dav_reading.specs.declared.tree_fault.TreeFault.{TreeFault}
 use Rattle.dav_reading.specs.declared.tree_fault.TreeFault.TheVariants.{BadDocument}
 use Rattle.dav_reading.specs.declared.mode.Reader.{Reader}
 use Rattle.dav_reading.specs.declared.mode.Mode.TheVariants.{Among, Behind, Content, Keying, Naming, Slash}

@@ -8,7 +8,7 @@ use Rattle.dav_elements.specs.declared.progress.Progress.TheVariants.{Before, Wi
 use Rattle.dav_reading.specs.declared.tree_fault.TreeFault.{TreeFault}
 use Rattle.dav_reading.specs.declared.tree_fault.TreeFault.TheVariants.{BadDocument, NotInProfile, NoMemory}
 use Rattle.dav_reading.specs.declared.mode.Mode.{Mode}
-use Rattle.dav_reading.specs.declared.mode.Mode.TheVariants.{Content}
+use Rattle.dav_reading.specs.declared.mode.Mode.TheVariants.{Content, TextRef, Less, Naming, Behind, Among, Keying, Keyed, Equal, Valued, ValueRef, Slash, Closing, Closed, Beside}
 use Rattle.dav_reading.specs.declared.mode.Reader.{Reader}
 use Rattle.dav_reading.specs.LineEnds.{lines_joined}
 use Rattle.dav_reading.specs.Heads.{behind_mark, after_head}
@@ -18,10 +18,33 @@ use Rattle.dav_reading.specs.Modes.{read_bytes}
 abbrev pub reader_at_start : ℕ → Reader
 reader_at_start nest = record { place = record { mode = Content; progress = Before nest false }; form = None }
 
+-- it stands between tags, outside all else
+abbrev pub is_content : Mode → Bool
+is_content Content = true
+is_content (TextRef word) = false
+is_content Less = false
+is_content (Naming name) = false
+is_content (Behind tag) = false
+is_content (Among tag) = false
+is_content (Keying tag key) = false
+is_content (Keyed tag key) = false
+is_content (Equal tag key) = false
+is_content (Valued tag key quote value) = false
+is_content (ValueRef tag key quote value word) = false
+is_content (Slash tag) = false
+is_content (Closing name) = false
+is_content (Closed name) = false
+is_content (Beside aside) = false
+
+-- the element that was read, once it is ended
+abbrev pub ended_elem : Progress → Option Elem
+ended_elem (Before nest typed) = None
+ended_elem (Within f around) = None
+ended_elem (After e) = Some e
+
 -- the element that was read, where the text ends behind it and between tags
 abbrev pub whole_in : Mode → Progress → Option Elem
-whole_in Content (After e) = Some e
-whole_in _ _ = None
+whole_in mode progress = cond (is_content mode) (ended_elem progress) None
 
 -- a whole document's element, or the first left-out form in it
 abbrev pub answer_with : Option Form → Option Elem → Result Elem TreeFault

@@ -1,5 +1,5 @@
 -- What may stand before all else: a byte order mark, and the declaration of XML (XML 1.0, sections 2.8 and 4.3.3).
-use Rattle.std.specs.Prelude.{ℕ, Bool, true, false, cond, ◌&&◌, ◌||◌, List, [], ◌∷◌, Option, Some, None, option_and_then, length, drop, nat_eq, ◌==◌, codes}
+use Rattle.std.specs.Prelude.{ℕ, Bool, false, cond, ◌&&◌, ◌||◌, List, [], ◌∷◌, Option, Some, None, option_and_then, length, drop, nat_eq, ◌==◌, codes}
 use Rattle.std.specs.List.{starts_with}
 use Rattle.std.specs.Str.{bytes_eq, str_eq_ignore_ascii_case}
 use Rattle.dsv_base.specs.Lines.{cut_at}

@@ -1,13 +1,11 @@
 -- Reading a document byte by byte.
-use Rattle.std.specs.Prelude.{ℕ, cond, ◌||◌, List, [], ◌∷◌, ◌++◌, Option, Some, None, option_and_then, option_map, not, ◌&&◌, ◌==◌, Bool}
+use Rattle.std.specs.Prelude.{ℕ, cond, ◌||◌, List, [], ◌∷◌, ◌++◌, Option, Some, None, option_and_then, option_map, not, ◌&&◌, ◌==◌}
 use Rattle.dsv_base.specs.declared.form.Form.{Form}
 use Rattle.dsv_base.specs.declared.form.Form.TheVariants as forms
 use Rattle.dav_documents.specs.Plain.{begins_name, is_written_name_byte}
 use Rattle.dav_elements.specs.declared.tag.Raw.{Raw}
 use Rattle.dav_elements.specs.declared.tag.Tag.{Tag}
-use Rattle.dav_elements.specs.declared.elem.Elem.{Elem}
 use Rattle.dav_elements.specs.declared.progress.Progress.{Progress}
-use Rattle.dav_elements.specs.declared.progress.Progress.TheVariants.{Before, Within, After}
 use Rattle.dav_elements.specs.Names.{is_white}
 use Rattle.dav_elements.specs.Growing.{enter, leave, say, refer}
 use Rattle.dav_reading.specs.declared.mode.Aside.{Aside}
