@@ -46,7 +46,7 @@ not_distinct same (suc n) (x ∷ xs) h = rw (not_distinct same n xs h) (either (
     either true = refl
     either false = refl
 
-item_front : {X : Type 0} (xs : List X) (left : ℕ) (x : X) → 0 < left → left ≤ length xs → x ≡ get_or xs (left - 1) x → drop (left - 1) xs ≡ x ∷ drop left xs
+pub item_front : {X : Type 0} (xs : List X) (left : ℕ) (x : X) → 0 < left → left ≤ length xs → x ≡ get_or xs (left - 1) x → drop (left - 1) xs ≡ x ∷ drop left xs
 item_front xs left x h w is =
     let behind : left - 1 + 1 ≡ left = omega (arith, h) in
     at_drop_more (λ l. l) xs (left - 1) x (omega (arith, h, w)) ∙ ap (λ y. y ∷ drop (left - 1 + 1) xs) (sym is) ∙ ap (λ n. x ∷ drop n xs) behind

@@ -34,11 +34,20 @@ parts_by_cut name (Some cut) = prefixed_parts cut.0 cut.1
 unfoldable pub name_parts : List ℕ → Option NameParts
 name_parts name = parts_by_cut name (cut_at 58 name)
 
--- the namespace that a prefix stands for, by the first binding of it; the empty prefix may be unbound, and then stands for none
+-- what the first binding of a prefix binds it to
+abbrev pub first_space : List Bound → List ℕ → Option (List ℕ)
+first_space [] prefix = None
+first_space (one ∷ others) prefix = cond (bytes_eq prefix one.prefix) (Some one.space) (first_space others prefix)
+
+-- a prefix that isn't bound stands for nothing; where there is no prefix, that is no namespace
+abbrev pub or_no_space : List ℕ → Option (List ℕ) → Option (List ℕ)
+or_no_space [] None = Some []
+or_no_space (b ∷ bs) None = None
+or_no_space prefix (Some space) = Some space
+
+-- the namespace that a prefix stands for
 unfoldable pub space_bound : List Bound → List ℕ → Option (List ℕ)
-space_bound [] [] = Some []
-space_bound [] (b ∷ bs) = None
-space_bound (one ∷ others) prefix = cond (bytes_eq one.prefix prefix) (Some one.space) (space_bound others prefix)
+space_bound spaces prefix = or_no_space prefix (first_space spaces prefix)
 
 -- an element's name with its namespace
 unfoldable pub element_name : List Bound → NameParts → Option PropName

@@ -2,7 +2,8 @@ ghost use Rattle.std.specs.Prelude.{◌≡◌, ◌++◌, IfOk, OnOk, drop};
 ghost use Rattle.std.specs.List.{list_all};
 ghost use Rattle.dav_elements.specs.Bindings.{xml_space, xmlns_space, is_prefix_key, is_binding, bindings_of, bound_in_tag, may_bind, may_bind_prefix, is_fair};
 
-use crate::bound::{Bound, Bounds};
+use crate::bound::Bound;
+use crate::bounds::Bounds;
 use crate::names::{begins_part, has_colon};
 use crate::tag::Raw;
 use dsv_base::{Bytes, NoMemory};
@@ -87,19 +88,14 @@ fn behind_colon(key: &[u8]) -> &[u8]
 pub fn bound_in_tag(alloc: Global, raws: &[Raw], spaces: &Bounds) -> Result<Bounds, NoMemory>
     ensures { IfOk result (λ all. all ≡ bound_in_tag raws.now spaces.now) }
 {
-    let mut all = Vec::new(alloc);
+    let mut own = Vec::new(alloc);
     'raws: for raw in raws {
-        push_binding(alloc, raw, &mut all)?;
+        push_binding(alloc, raw, &mut own)?;
     }
-    if all.is_empty() {
+    if own.is_empty() {
         return spaces.share();
     }
-    'bounds: for bound in spaces.get() {
-        let prefix = bound.prefix.copy()?;
-        let space = bound.space.copy()?;
-        all.push(Bound { prefix, space })?;
-    }
-    Bounds::of(all)
+    spaces.with(alloc, own)
 }
 
 fn push_binding(alloc: Global, raw: &Raw, all: &mut Vec<Bound>) -> Result<(), NoMemory>

@@ -1,4 +1,4 @@
-use crate::bound::Bounds;
+use crate::bounds::Bounds;
 use crate::elem::{Attr, Part};
 use dsv_base::{Bytes, List, PropName};
 use sqlite_items::Items;

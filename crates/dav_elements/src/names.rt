@@ -2,9 +2,9 @@ ghost use Rattle.std.specs.Prelude.{◌≡◌};
 ghost use Rattle.std.specs.List.{list_any};
 ghost use Rattle.dav_documents.specs.Plain.{begins_name};
 ghost use Rattle.dav_elements.specs.Takes.{Takes};
-ghost use Rattle.dav_elements.specs.Names.{is_white, is_colon, begins_part, prefixed_parts, name_parts, space_bound, element_name, attribute_name};
+ghost use Rattle.dav_elements.specs.Names.{is_white, is_colon, begins_part, prefixed_parts, name_parts, or_no_space, space_bound, element_name, attribute_name};
 
-use crate::bound::Bound;
+use crate::bounds::Bounds;
 use crate::name_parts::NameParts;
 use crate::unread::Unread;
 use dsv_base::{Bytes, PropName, cut_bytes};
@@ -77,25 +77,30 @@ fn prefixed_parts(prefix: Bytes, local: Bytes) -> Result<NameParts, Unread>
 }
 
 #[tactic(auto, unfolding(crate::specs::Names::space_bound))]
-fn space_bound(alloc: Global, spaces: &[Bound], prefix: &[u8]) -> Result<Bytes, Unread>
+fn space_bound(alloc: Global, spaces: &Bounds, prefix: &[u8]) -> Result<Bytes, Unread>
     ensures { Takes result (space_bound spaces.now prefix.now) }
 {
-    'bounds: for one in spaces {
-        if one.prefix.get() == prefix {
-            let space = one.space.copy()?;
-            return Ok(space);
+    let found = spaces.find(prefix)?;
+    or_no_space(alloc, prefix, found)
+}
+
+fn or_no_space(alloc: Global, prefix: &[u8], found: Option<Bytes>) -> Result<Bytes, Unread>
+    ensures { Takes result (or_no_space prefix.now found) }
+{
+    match found {
+        Some(space) => Ok(space),
+        None => {
+            if !prefix.is_empty() {
+                return Err(Unread::Bad);
+            }
+            Ok(Bytes::from_vec(Vec::new(alloc)))
         }
-    }
-    if prefix.is_empty() {
-        Ok(Bytes::from_vec(Vec::new(alloc)))
-    } else {
-        Err(Unread::Bad)
     }
 }
 
 /// The element's name with its namespace.
 #[tactic(auto, unfolding(crate::specs::Names::element_name))]
-pub fn element_name(alloc: Global, spaces: &[Bound], parts: NameParts) -> Result<PropName, Unread>
+pub fn element_name(alloc: Global, spaces: &Bounds, parts: NameParts) -> Result<PropName, Unread>
     ensures { Takes result (element_name spaces.now parts) }
 {
     let NameParts { prefix, local } = parts;
@@ -105,7 +110,7 @@ pub fn element_name(alloc: Global, spaces: &[Bound], parts: NameParts) -> Result
 
 /// The attribute's name with its namespace.
 #[tactic(auto, unfolding(crate::specs::Names::attribute_name))]
-pub fn attribute_name(alloc: Global, spaces: &[Bound], parts: NameParts) -> Result<PropName, Unread>
+pub fn attribute_name(alloc: Global, spaces: &Bounds, parts: NameParts) -> Result<PropName, Unread>
     ensures { Takes result (attribute_name spaces.now parts) }
 {
     if parts.prefix.get().is_empty() {

@@ -4,7 +4,8 @@ ghost use Rattle.dav_elements.specs.Opening.{outermost, opened_by, opened_with};
 
 use crate::attrs::attrs_from;
 use crate::binding::{are_fair, bound_in_tag, xml_space};
-use crate::bound::{Bound, Bounds};
+use crate::bound::Bound;
+use crate::bounds::Bounds;
 use crate::distinct::{are_keys_distinct, are_names_distinct};
 use crate::frame::{Opened, Scope};
 use crate::names::{element_name, name_parts};
@@ -19,9 +20,10 @@ pub fn outermost(alloc: Global, nest: u32) -> Result<Scope, NoMemory>
 {
     let prefix = Bytes::of(alloc, b"xml")?;
     let space = Bytes::of(alloc, xml_space())?;
-    let mut spaces = Vec::new(alloc);
-    spaces.push(Bound { prefix, space })?;
-    let spaces = Bounds::of(spaces)?;
+    let mut own = Vec::new(alloc);
+    own.push(Bound { prefix, space })?;
+    let none = Bounds::none(alloc)?;
+    let spaces = none.with(alloc, own)?;
     Ok(Scope { left: nest, spaces })
 }
 
@@ -47,8 +49,8 @@ fn opened_with(alloc: Global, left: u32, tag: &Tag, spaces: Bounds) -> Result<Op
     ensures { Takes result (opened_with left tag.now spaces) }
 {
     let parts = name_parts(alloc, &tag.name)?;
-    let name = element_name(alloc, spaces.get(), parts)?;
-    let attrs = attrs_from(alloc, spaces.get(), tag.attrs.get())?;
+    let name = element_name(alloc, &spaces, parts)?;
+    let attrs = attrs_from(alloc, &spaces, tag.attrs.get())?;
     if !are_names_distinct(alloc, attrs.get())? {
         return Err(Unread::Bad);
     }
