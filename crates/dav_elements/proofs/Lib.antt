@@ -1,0 +1,3 @@
+mod TagAttrs
+mod Seen
+mod SpaceMaps

@@ -1,0 +1,5 @@
+mod Steps
+mod Spelling
+mod Clean
+mod TreesRead
+mod Slashes

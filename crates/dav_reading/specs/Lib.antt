@@ -1,0 +1,7 @@
+pub mod References
+pub mod Heads
+pub mod LineEnds
+pub mod Asides
+pub mod Modes
+pub mod Documents
+pub mod WrittenTrees

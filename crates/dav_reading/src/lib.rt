@@ -1,0 +1,18 @@
+//! Documents in XML that are read: their element with its namespaces, or why they aren't.
+#![tactic(auto)]
+
+mod asides;
+mod contents;
+mod forms;
+mod heads;
+mod law;
+mod line_ends;
+mod mode;
+mod reading;
+mod references;
+mod starts;
+mod tree_fault;
+
+pub use law::written_is_read;
+pub use reading::read_tree;
+pub use tree_fault::TreeFault;

@@ -1,0 +1,137 @@
+ghost use Rattle.std.specs.Prelude.{◌≡◌, Some, option_and_then};
+ghost use Rattle.dsv_base.specs.Gives.{Gives};
+ghost use Rattle.dav_elements.specs.Takes.{Takes};
+ghost use Rattle.dav_reading.specs.Heads.{behind_mark, after_head};
+ghost use Rattle.dav_reading.specs.Modes.{read_in, read_byte, read_bytes};
+ghost use Rattle.dav_reading.specs.Documents.{reader_at_start, ended_elem, whole_in, answer_with, answer_at_end, document, is_free_of_tree};
+
+use crate::asides::read_aside;
+use crate::contents::{closed, closing, content, less, slash, text_ref};
+use crate::forms::{first_form, form_in, is_content};
+use crate::heads::{after_head, behind_mark};
+use crate::line_ends::lines_joined;
+use crate::mode::{Mode, Place, Reader};
+use crate::starts::{among, equal, keyed, keying, naming, read_behind, value_ref, valued};
+use crate::tree_fault::TreeFault;
+use dav_elements::{Elem, Progress, Unread};
+use dsv_base::{Form, xml_plain};
+use std::alloc::Global;
+
+fn read_in(alloc: Global, progress: Progress, mode: Mode, b: u8) -> Result<Place, Unread>
+    ensures { Takes result (read_in progress mode b) }
+{
+    match mode {
+        Mode::Content => content(alloc, progress, b),
+        Mode::TextRef(word) => text_ref(alloc, progress, word, b),
+        Mode::Less => less(alloc, progress, b),
+        Mode::Naming(name) => naming(alloc, progress, name, b),
+        Mode::Behind(tag) => read_behind(alloc, progress, tag, b),
+        Mode::Among(tag) => among(alloc, progress, tag, b),
+        Mode::Keying(tag, key) => keying(progress, tag, key, b),
+        Mode::Keyed(tag, key) => keyed(progress, tag, key, b),
+        Mode::Equal(tag, key) => equal(alloc, progress, tag, key, b),
+        Mode::Valued(tag, key, quote, value) => valued(alloc, progress, tag, key, quote, value, b),
+        Mode::ValueRef(tag, key, quote, value, word) => {
+            value_ref(alloc, progress, tag, key, quote, value, word, b)
+        }
+        Mode::Slash(tag) => slash(alloc, progress, tag, b),
+        Mode::Closing(name) => closing(alloc, progress, name, b),
+        Mode::Closed(name) => closed(alloc, progress, name, b),
+        Mode::Beside(aside) => read_aside(progress, aside, b),
+    }
+}
+
+fn read_byte(alloc: Global, reader: Reader, b: u8) -> Result<Reader, Unread>
+    ensures { Takes result (read_byte reader b) }
+{
+    let Reader { place, form } = reader;
+    let form = first_form(form, form_in(&place.mode, b));
+    let Place { mode, progress } = place;
+    let place = read_in(alloc, progress, mode, b)?;
+    Ok(Reader { place, form })
+}
+
+fn read_bytes(alloc: Global, nest: u32, text: &[u8]) -> Result<Reader, Unread>
+    ensures { Takes result (read_bytes (reader_at_start nest) text.now) }
+{
+    let mut reader = Reader {
+        place: Place {
+            mode: Mode::Content,
+            progress: Progress::Before(nest, false),
+        },
+        form: None,
+    };
+    'bytes: for b in text {
+        reader = read_byte(alloc, reader, *b)?;
+    }
+    Ok(reader)
+}
+
+fn read_text(alloc: Global, nest: u32, text: &[u8]) -> Result<Reader, Unread>
+    ensures { Takes result (option_and_then (read_bytes (reader_at_start nest)) (after_head (behind_mark text.now))) }
+{
+    let body = after_head(behind_mark(text))?;
+    read_bytes(alloc, nest, body)
+}
+
+fn ended_elem(progress: Progress) -> Option<Elem>
+    ensures { result ≡ ended_elem progress }
+{
+    match progress {
+        Progress::Before(_, _) => None,
+        Progress::Within(_, _) => None,
+        Progress::After(elem) => Some(elem),
+    }
+}
+
+fn whole_in(place: Place) -> Option<Elem>
+    ensures { result ≡ whole_in place.mode place.progress }
+{
+    let is_between = is_content(&place.mode);
+    let Place { mode: _, progress } = place;
+    if !is_between {
+        return None;
+    }
+    ended_elem(progress)
+}
+
+fn answer_with(form: Option<Form>, elem: Option<Elem>) -> Result<Elem, TreeFault>
+    ensures { result ≡ answer_with form elem }
+{
+    match elem {
+        None => Err(TreeFault::BadDocument),
+        Some(elem) => match form {
+            None => Ok(elem),
+            Some(form) => Err(TreeFault::NotInProfile(form)),
+        },
+    }
+}
+
+fn answer_at_end(reader: Reader) -> Result<Elem, TreeFault>
+    ensures { result ≡ answer_at_end (Some reader) }
+{
+    let Reader { place, form } = reader;
+    answer_with(form, whole_in(place))
+}
+
+/// Reads a document in which at most `nest` elements stand in each other.
+///
+/// Its errors: it isn't in the grammar; it is, with a form that is left out, of which the first is
+/// named; or want of memory.
+#[tactic(auto, unfolding(crate::specs::Documents::document))]
+pub fn read_tree(alloc: Global, bytes: &[u8], nest: u32) -> Result<Elem, TreeFault>
+    ensures { Gives is_free_of_tree result (document nest bytes.now) }
+{
+    if !xml_plain(bytes) {
+        return Err(TreeFault::BadDocument);
+    }
+    let text = match lines_joined(alloc, bytes) {
+        Ok(text) => text,
+        Err(_) => return Err(TreeFault::NoMemory),
+    };
+    match read_text(alloc, nest, text.as_slice()) {
+        Ok(reader) => answer_at_end(reader),
+        Err(Unread::Bad) => Err(TreeFault::BadDocument),
+        Err(Unread::NoMemory) => Err(TreeFault::NoMemory),
+    }
+}
