@@ -1,16 +1,18 @@
 -- What is found in a map whose keys are read as texts, and what an insert makes of it.
-use Rattle.std.proofs.Common.{Ordering, Less, Equal, Greater, ◌≡◌, ℕ, true, cond, List, [], ◌∷◌, Option, Some, refl, sym, ap, ◌∙◌}
+use Rattle.std.proofs.Common.{Ordering, Less, Equal, Greater, ◌≡◌, ℕ, ◌&&◌, true, cond, List, [], ◌∷◌, Option, Some, refl, sym, ap, ◌∙◌}
 use Rattle.std.specs.Str.{bytes_eq}
 use Rattle.std.specs.BTreeMap.{insert_entry}
-use Rattle.std.specs.Map.{lookup}
-use Rattle.std.specs.Ordering.{match_ordering, nat_cmp, is_eq}
+use Rattle.std.specs.Map.{lookup, keys_of}
+use Rattle.std.specs.List.{list_all, AllByRecursion}
+use Rattle.std.specs.List.Sorted.{IsStrictlySortedBy}
+use Rattle.std.specs.Ordering.{match_ordering, nat_cmp, is_eq, is_lt}
 use Rattle.std.specs.Cmp.Lexicographic.{slice_cmp}
-use Rattle.std.specs.FinMap.{find, put}
-use Rattle.std.specs.FinMap.Entries.{by_order}
+use Rattle.std.specs.FinMap.{find, put, is_sorted}
+use Rattle.std.specs.FinMap.Entries.{by_order, below_all}
 use Rattle.std.proofs.lemmas.Bool.{and_parts, and_from}
 use Rattle.std.proofs.lemmas.Map.Lookups.{exact_bytes}
 use Rattle.std.proofs.lemmas.Slice.Eq.{bytes_eq-Decides}
-use Rattle.path_locks.specs.LockStates.{Lock, LockState, lock_at, with_lock}
+use Rattle.path_locks.specs.LockStates.{Lock, LockState, lock_at, with_lock, StandInOrder}
 use Rattle.path_locks.specs.Kept.{locks_in, seen_locks, stand_at_paths}
 
 module _ {K : Type 0} (text : K → List ℕ) where
@@ -65,3 +67,21 @@ module _ {K : Type 0} (text : K → List ℕ) where
 
     pub named_put : stand_at_paths text es ≡ true → stand_at_paths text new ≡ true
     named_put named = ap (stand_at_paths text) is_put ∙ named_inserted es named
+
+  -- ---- the order of the keys, and their locks
+
+  below_is : (k : K) (es : List (K × Lock)) → AllByRecursion (λ y. order k y ≡ Less) (keys_of es) → below_all (slice_cmp nat_cmp) (text k) (locks_in text es) ≡ true
+  below_is k [] all = refl
+  below_is k (e ∷ es) all = and_from (is_lt (order k e.0)) _ (ap is_lt all.0) (below_is k es all.1)
+
+  sorted_is : (es : List (K × Lock)) → IsStrictlySortedBy order (keys_of es) → is_sorted (slice_cmp nat_cmp) (locks_in text es) ≡ true
+  unfolding IsStrictlySortedBy
+  sorted_is [] sorted = refl
+  sorted_is (e ∷ es) sorted = and_from (below_all (slice_cmp nat_cmp) (text e.0) (locks_in text es)) _ (below_is e.0 es sorted.0) (sorted_is es sorted.1)
+
+  named_is : (es : List (K × Lock)) → stand_at_paths text es ≡ list_all (λ (e : List ℕ × Lock). bytes_eq e.1.path e.0) (locks_in text es)
+  named_is [] = refl
+  named_is (e ∷ es) = ap (λ b. bytes_eq e.1.path (text e.0) && b) (named_is es)
+
+  pub in_order : (es : List (K × Lock)) → stand_at_paths text es ≡ true → IsStrictlySortedBy order (keys_of es) → StandInOrder (seen_locks text es)
+  in_order es named sorted = record { named = sym (named_is es) ∙ named; sorted = sorted_is es sorted }

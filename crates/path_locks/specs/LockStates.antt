@@ -1,6 +1,8 @@
 -- Locks of paths, at each path at most one.
-use Rattle.std.specs.Prelude.{ℕ, List, [], map, filter, Option}
-use Rattle.std.specs.FinMap.{find, put}
+use Rattle.std.specs.Prelude.{ℕ, List, [], map, filter, Option, IsTrue}
+use Rattle.std.specs.List.{list_all}
+use Rattle.std.specs.Str.{bytes_eq}
+use Rattle.std.specs.FinMap.{find, put, is_sorted}
 use Rattle.std.specs.Ordering.{nat_cmp}
 use Rattle.std.specs.Cmp.Lexicographic.{slice_cmp}
 use Rattle.dsv_base.specs.Paths.{is_under}
@@ -25,3 +27,8 @@ with_lock lock state = record { locks = put (slice_cmp nat_cmp) lock.path lock s
 -- the locks at a path or below it, in byte order of their paths
 abbrev pub locks_under : List ℕ → LockState → List Lock
 locks_under path state = map (λ e. e.1) (filter (λ e. is_under e.0 path) state.locks)
+
+-- each lock stands at its own path, and the paths strictly rise in byte order
+pub record StandInOrder (state : LockState) : Type 0 where
+  pub named : IsTrue (list_all (λ e. bytes_eq e.1.path e.0) state.locks)
+  pub sorted : IsTrue (is_sorted (slice_cmp nat_cmp) state.locks)

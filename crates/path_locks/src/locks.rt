@@ -1,7 +1,7 @@
 ghost use Rattle.std.specs.Prelude.{◌≡◌, ◌++◌, ◌∷◌, [], IfOk, IfSome, OnOk, OnErr, map};
 ghost use Rattle.std.specs.Option.{option_copied};
 ghost use Rattle.dsv_base.specs.Paths.{front_of};
-ghost use Rattle.path_locks.specs.LockStates.{no_locks, lock_at, with_lock, locks_under};
+ghost use Rattle.path_locks.specs.LockStates.{no_locks, lock_at, with_lock, locks_under, StandInOrder};
 ghost use Rattle.path_locks.specs.Kept.{run_of, those_under};
 
 use crate::lock::Lock;
@@ -66,6 +66,14 @@ impl Locks {
         let key = Vec::from_slice(self.alloc, lock.path.text())?;
         self.map.insert(key, lock)?;
         Ok(())
+    }
+
+    /// Says to callers, who see no more of the locks than the list, that each stands at its own path and that
+    /// the paths rise.
+    pub fn stand_in_order(&self)
+        ensures { StandInOrder self.now }
+    {
+        let _count = self.map.len();
     }
 }
 

@@ -1,9 +1,10 @@
-//! Tables of rows on texts, paths, targets, documents and replies, and on the objects in memory: for each
+//! Tables of rows on texts, paths, locks, targets, documents and replies, and on the objects in memory: for each
 //! table what is answered to a row.
 #![tactic(auto)]
 
 mod dates;
 mod documents;
+mod locks;
 mod outside;
 mod paths;
 mod refusals;

@@ -1,5 +1,6 @@
 use crate::dates::{DateTable, answer_date};
 use crate::documents::{DocumentTable, answer_document};
+use crate::locks::answer_locks;
 use crate::outside::{ObjectTable, answer_object};
 use crate::paths::{PathTable, answer_path};
 use crate::replies::{ReplyTable, answer_reply};
@@ -13,6 +14,7 @@ enum Table {
     Text(TextTable),
     Path(PathTable),
     Date(DateTable),
+    Locks,
     Object(ObjectTable),
     Document(DocumentTable),
     Target(TargetTable),
@@ -20,7 +22,7 @@ enum Table {
 }
 
 /// The tables by name.
-const TABLES: [(&str, Table); 30] = [
+const TABLES: [(&str, Table); 31] = [
     ("text in XML", Table::Text(TextTable::InXml)),
     ("text that XML can hold", Table::Text(TextTable::Plain)),
     ("line", Table::Text(TextTable::Line)),
@@ -41,6 +43,7 @@ const TABLES: [(&str, Table); 30] = [
     ("moment", Table::Path(PathTable::Moment)),
     ("date as Subversion writes it", Table::Date(DateTable::Iso)),
     ("date as HTTP writes it", Table::Date(DateTable::Http)),
+    ("locks", Table::Locks),
     ("source", Table::Object(ObjectTable::Source)),
     ("sink", Table::Object(ObjectTable::Sink)),
     ("files", Table::Object(ObjectTable::Files)),
@@ -62,6 +65,7 @@ pub fn answer(table: &str, given: &Given<'_>, out: &mut Answer) -> bool {
         Some(Table::Text(table)) => answer_text(table, given, out),
         Some(Table::Path(table)) => answer_path(table, given, out),
         Some(Table::Date(table)) => answer_date(table, given, out),
+        Some(Table::Locks) => answer_locks(given, out),
         Some(Table::Object(table)) => answer_object(table, given, out),
         Some(Table::Document(table)) => answer_document(table, given, out),
         Some(Table::Target(table)) => answer_target(table, given, out),
