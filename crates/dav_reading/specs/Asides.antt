@@ -1,5 +1,5 @@
 -- What may stand between tags beside text: comments, sections of character data, processing instructions, and a document type declaration (XML 1.0, sections 2.5 to 2.8).
-use Rattle.std.specs.Prelude.{ℕ, Bool, true, false, not, cond, ◌&&◌, ◌||◌, List, [], ◌∷◌, ◌++◌, Option, Some, None, option_and_then, nat_eq, ◌==◌, codes}
+use Rattle.std.specs.Prelude.{ℕ, Bool, cond, ◌&&◌, ◌||◌, List, [], ◌∷◌, ◌++◌, Option, Some, None, option_and_then, nat_eq, ◌==◌, codes, ◌+◌, ◌-◌}
 use Rattle.std.specs.List.{starts_with}
 use Rattle.std.specs.Str.{bytes_eq}
 use Rattle.dav_elements.specs.declared.progress.Progress.{Progress}
@@ -26,15 +26,15 @@ may_mark word = starts_with nat_eq (codes "--") word || starts_with nat_eq (code
 abbrev pub read_mark : Progress → List ℕ → Option Place
 read_mark progress word = cond (bytes_eq word (codes "--")) (now_in (Beside Comment) progress)
     (cond (bytes_eq word (codes "[CDATA[")) (option_and_then (now_in (Beside Data)) (refer progress []))
-    (cond (bytes_eq word (codes "DOCTYPE")) (now_in (Beside (Typing false)) progress)
+    (cond (bytes_eq word (codes "DOCTYPE")) (now_in (Beside (Typing 0)) progress)
     (cond (may_mark word) (now_in (Beside (Marked word)) progress) None)))
 
--- a byte of a document type, outside quotes; the test says that it stands in square brackets
-abbrev pub read_type : Progress → Bool → ℕ → Option Place
+-- a byte of a document type, outside quotes, which stands in so many square brackets; it ends outside all of them
+abbrev pub read_type : Progress → ℕ → ℕ → Option Place
 read_type progress inside b = cond (b == 34 || b == 39) (now_in (Beside (Quoted inside b)) progress)
-    (cond (b == 91) (now_in (Beside (Typing true)) progress)
-    (cond (b == 93) (now_in (Beside (Typing false)) progress)
-    (cond (b == 62 && not inside) (now_between (declare progress)) (now_in (Beside (Typing inside)) progress))))
+    (cond (b == 91) (now_in (Beside (Typing (inside + 1))) progress)
+    (cond (b == 93) (now_in (Beside (Typing (inside - 1))) progress)
+    (cond (b == 62 && inside == 0) (now_between (declare progress)) (now_in (Beside (Typing inside)) progress))))
 
 -- one byte: a comment has no `--` but in its end, character data ends at the first `]]>`, and a processing instruction at the first `?>`
 abbrev pub read_aside : Progress → Aside → ℕ → Option Place

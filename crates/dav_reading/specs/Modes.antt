@@ -1,5 +1,5 @@
 -- Reading a document byte by byte.
-use Rattle.std.specs.Prelude.{ℕ, cond, ◌||◌, List, [], ◌∷◌, ◌++◌, Option, Some, None, option_and_then, option_map, not, ◌&&◌, ◌==◌}
+use Rattle.std.specs.Prelude.{ℕ, cond, ◌||◌, List, [], ◌∷◌, ◌++◌, Option, Some, None, option_and_then, option_map, ◌&&◌, ◌==◌}
 use Rattle.dsv_base.specs.declared.form.Form.{Form}
 use Rattle.dsv_base.specs.declared.form.Form.TheVariants as forms
 use Rattle.dav_documents.specs.Plain.{begins_name, is_written_name_byte}
@@ -69,7 +69,7 @@ form_of_aside CommentEnd b = None
 form_of_aside Data b = None
 form_of_aside DataBracket b = None
 form_of_aside DataEnd b = None
-form_of_aside (Typing inside) b = cond (b == 62 && not inside) (Some forms.Doctype) None
+form_of_aside (Typing inside) b = cond (b == 62 && inside == 0) (Some forms.Doctype) None
 form_of_aside (Quoted inside quote) b = None
 form_of_aside Processing b = None
 form_of_aside ProcessingEnd b = cond (b == 62) (Some forms.Processing) None

@@ -43,7 +43,7 @@ fn read_mark(progress: Progress, word: List<u8>) -> Result<Place, Unread>
         return Ok(beside(Aside::Data, progress));
     }
     if word.get() == b"DOCTYPE".as_slice() {
-        return Ok(beside(Aside::Typing(false), progress));
+        return Ok(beside(Aside::Typing(0), progress));
     }
     if may_mark(word.get()) {
         return Ok(beside(Aside::Marked(word), progress));
@@ -51,23 +51,33 @@ fn read_mark(progress: Progress, word: List<u8>) -> Result<Place, Unread>
     Err(Unread::Bad)
 }
 
-fn read_type(progress: Progress, inside: bool, b: u8) -> Result<Place, Unread>
+fn read_type(progress: Progress, inside: u64, b: u8) -> Result<Place, Unread>
     ensures { Takes result (read_type progress inside b) }
 {
     if b == b'"' || b == b'\'' {
         return Ok(beside(Aside::Quoted(inside, b), progress));
     }
     if b == b'[' {
-        return Ok(beside(Aside::Typing(true), progress));
+        return deeper(progress, inside);
     }
     if b == b']' {
-        return Ok(beside(Aside::Typing(false), progress));
+        return Ok(beside(Aside::Typing(inside.saturating_sub(1)), progress));
     }
-    if b == b'>' && !inside {
+    if b == b'>' && inside == 0 {
         let progress = declare(progress)?;
         return Ok(between(progress));
     }
     Ok(beside(Aside::Typing(inside), progress))
+}
+
+/// One square bracket more. There is no memory for a text with more of them than a number tells.
+fn deeper(progress: Progress, inside: u64) -> Result<Place, Unread>
+    ensures { Takes result (read_type progress inside 91) }
+{
+    match inside.checked_add(1) {
+        Some(inside) => Ok(beside(Aside::Typing(inside), progress)),
+        None => Err(Unread::NoMemory),
+    }
 }
 
 fn data(progress: Progress, b: u8) -> Result<Place, Unread>
@@ -131,7 +141,7 @@ fn comment_end(progress: Progress, b: u8) -> Result<Place, Unread>
     Err(Unread::Bad)
 }
 
-fn quoted_type(progress: Progress, inside: bool, quote: u8, b: u8) -> Place
+fn quoted_type(progress: Progress, inside: u64, quote: u8, b: u8) -> Place
     ensures { read_aside progress (aside_modes.Quoted inside quote) b ≡ Some result }
 {
     if b == quote {

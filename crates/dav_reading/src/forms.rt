@@ -16,7 +16,7 @@ fn form_of_aside(aside: &Aside, b: u8) -> Option<Form>
         Aside::Data => None,
         Aside::DataBracket => None,
         Aside::DataEnd => None,
-        Aside::Typing(inside) => form_if(b == b'>' && !*inside, Form::Doctype),
+        Aside::Typing(inside) => form_if(b == b'>' && *inside == 0, Form::Doctype),
         Aside::Quoted(_, _) => None,
         Aside::Processing => None,
         Aside::ProcessingEnd => form_if(b == b'>', Form::Processing),

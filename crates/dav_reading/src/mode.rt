@@ -18,10 +18,10 @@ pub enum Aside {
     DataBracket,
     /// Behind `]]` there.
     DataEnd,
-    /// In a document type, in square brackets or not.
-    Typing(bool),
+    /// In a document type, in so many square brackets.
+    Typing(u64),
     /// In quotes there.
-    Quoted(bool, u8),
+    Quoted(u64, u8),
     /// In a processing instruction.
     Processing,
     /// Behind a `?` there.
