@@ -1,7 +1,8 @@
-//! Tables of rows on texts, paths, targets, documents and replies, and on the objects in memory: for each
+//! Tables of rows on texts, paths, targets, documents, bodies and replies, and on the objects in memory: for each
 //! table what is answered to a row.
 #![tactic(auto)]
 
+mod bodies;
 mod documents;
 mod outside;
 mod paths;

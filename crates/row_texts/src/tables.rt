@@ -1,3 +1,4 @@
+use crate::bodies::{BodyTable, answer_body};
 use crate::documents::{DocumentTable, answer_document};
 use crate::outside::{ObjectTable, answer_object};
 use crate::paths::{PathTable, answer_path};
@@ -13,12 +14,13 @@ enum Table {
     Path(PathTable),
     Object(ObjectTable),
     Document(DocumentTable),
+    Body(BodyTable),
     Target(TargetTable),
     Reply(ReplyTable),
 }
 
 /// The tables by name.
-const TABLES: [(&str, Table); 28] = [
+const TABLES: [(&str, Table); 29] = [
     ("text in XML", Table::Text(TextTable::InXml)),
     ("text that XML can hold", Table::Text(TextTable::Plain)),
     ("line", Table::Text(TextTable::Line)),
@@ -44,6 +46,7 @@ const TABLES: [(&str, Table); 28] = [
     ("keeper", Table::Object(ObjectTable::Keeper)),
     ("document", Table::Document(DocumentTable::Document)),
     ("namespace", Table::Document(DocumentTable::Namespace)),
+    ("propfind body", Table::Body(BodyTable::Propfind)),
     ("target", Table::Target(TargetTable::Target)),
     ("written target", Table::Target(TargetTable::Written)),
     ("root", Table::Target(TargetTable::Root)),
@@ -59,6 +62,7 @@ pub fn answer(table: &str, given: &Given<'_>, out: &mut Answer) -> bool {
         Some(Table::Path(table)) => answer_path(table, given, out),
         Some(Table::Object(table)) => answer_object(table, given, out),
         Some(Table::Document(table)) => answer_document(table, given, out),
+        Some(Table::Body(table)) => answer_body(table, given, out),
         Some(Table::Target(table)) => answer_target(table, given, out),
         Some(Table::Reply(table)) => answer_reply(table, given, out),
         None => return false,
