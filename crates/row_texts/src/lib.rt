@@ -1,7 +1,8 @@
-//! Tables of rows on texts, paths, locks, targets, documents and replies, and on the objects in memory: for each
-//! table what is answered to a row.
+//! Tables of rows on texts, paths, locks, targets, documents, bodies and replies, and on the objects in memory: for
+//! each table what is answered to a row.
 #![tactic(auto)]
 
+mod bodies;
 mod dates;
 mod documents;
 mod locks;

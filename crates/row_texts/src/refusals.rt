@@ -139,3 +139,13 @@ const FORMS: [(&str, Form); 20] = [
     ("merged-revisions", Form::MergedRevisions),
     ("later", Form::Later),
 ];
+
+/// The word for a form.
+pub fn form_word(form: Form) -> &'static str {
+    'forms: for (word, known) in &FORMS {
+        if *known == form {
+            return word;
+        }
+    }
+    ""
+}

@@ -1,3 +1,4 @@
+use crate::bodies::{BodyTable, answer_body};
 use crate::dates::{DateTable, answer_date};
 use crate::documents::{DocumentTable, answer_document};
 use crate::locks::answer_locks;
@@ -17,12 +18,13 @@ enum Table {
     Locks,
     Object(ObjectTable),
     Document(DocumentTable),
+    Body(BodyTable),
     Target(TargetTable),
     Reply(ReplyTable),
 }
 
 /// The tables by name.
-const TABLES: [(&str, Table); 31] = [
+const TABLES: [(&str, Table); 32] = [
     ("text in XML", Table::Text(TextTable::InXml)),
     ("text that XML can hold", Table::Text(TextTable::Plain)),
     ("line", Table::Text(TextTable::Line)),
@@ -51,6 +53,7 @@ const TABLES: [(&str, Table); 31] = [
     ("keeper", Table::Object(ObjectTable::Keeper)),
     ("document", Table::Document(DocumentTable::Document)),
     ("namespace", Table::Document(DocumentTable::Namespace)),
+    ("propfind body", Table::Body(BodyTable::Propfind)),
     ("target", Table::Target(TargetTable::Target)),
     ("written target", Table::Target(TargetTable::Written)),
     ("root", Table::Target(TargetTable::Root)),
@@ -68,6 +71,7 @@ pub fn answer(table: &str, given: &Given<'_>, out: &mut Answer) -> bool {
         Some(Table::Locks) => answer_locks(given, out),
         Some(Table::Object(table)) => answer_object(table, given, out),
         Some(Table::Document(table)) => answer_document(table, given, out),
+        Some(Table::Body(table)) => answer_body(table, given, out),
         Some(Table::Target(table)) => answer_target(table, given, out),
         Some(Table::Reply(table)) => answer_reply(table, given, out),
         None => return false,

@@ -1,0 +1,4 @@
+pub mod Faults
+pub mod Elements
+pub mod Propfinds
+pub mod Bodies
