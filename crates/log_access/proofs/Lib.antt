@@ -1,4 +1,1 @@
-pub mod LevelLaws
-mod Rows
 pub mod ShownNodes
-pub mod ShownRecords
