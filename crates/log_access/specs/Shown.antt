@@ -1,20 +1,16 @@
--- What a user is shown of a repository, by the rules alone: a function of the repository, the rules and the user. As
--- yet these are the nodes; the record of a revision (its author, moment and changed paths) comes with the requests
--- that show it.
+-- What a user is shown of a repository, by the rules alone: a function of the repository, the rules and the user.
 use Rattle.std.specs.Prelude.{ℕ, ◌-◌, Bool, not, ◌&&◌, false, List, [], Option, None, Some, map, filter, length, slice_index_or, if◌then◌else◌}
-use Rattle.std.specs.Option.{option_and_then, option_map_or}
+use Rattle.std.specs.Option.{option_map_or}
 use Rattle.std.specs.List.{filter_map}
 use Rattle.dsv_base.specs.Paths.{parent_text}
 use Rattle.rev_nodes.specs.declared.kind.Kind.{Kind}
 use Rattle.rev_nodes.specs.Trees.{TreeNode, Tree, at, Revision, Repository}
 use Rattle.authz_file.specs.declared.rule.Rule.{Rule}
 use Rattle.authz_check.specs.Access.{can_read}
+use Rattle.log_access.specs.declared.level.Level.TheVariants as levels
+use Rattle.log_access.specs.Records.{ShownRecord, shown_source, shown_record}
 
 -- ---- a revision, by which paths are readable
-
--- the source of a copy is shown only where it is readable
-abbrev pub shown_source : (List ℕ → Bool) → Option (List ℕ × ℕ) → Option (List ℕ × ℕ)
-shown_source reads source = option_and_then (λ from. if reads from.0 then Some from else None) source
 
 -- a readable node, as it is shown
 abbrev pub shown_node : (List ℕ → Bool) → TreeNode → TreeNode
@@ -32,15 +28,19 @@ hidden_child reads place =
     then Some (place.0, place.1.node.kind)
     else None
 
--- what is shown of a revision: its readable nodes, and the names that are hidden in readable directories
+-- what is shown of a revision: its readable nodes, the names that are hidden in readable directories, and its record
 pub record ShownRevision : Type 0 where
   pub nodes : Tree
   pub hidden : List (List ℕ × Kind)
+  pub log : ShownRecord
 
 -- a revision, as it is shown
 abbrev pub shown_revision : (List ℕ → Bool) → Revision → ShownRevision
-shown_revision reads revision =
-    record { nodes = shown_nodes reads revision.tree; hidden = filter_map (hidden_child reads) revision.tree }
+shown_revision reads revision = record {
+  nodes = shown_nodes reads revision.tree;
+  hidden = filter_map (hidden_child reads) revision.tree;
+  log = shown_record reads revision;
+}
 
 -- ---- a repository
 
@@ -64,7 +64,11 @@ shown_of repository rules user = record {
 
 -- past the youngest revision nothing is shown
 abbrev pub shown_nothing : ShownRevision
-shown_nothing = record { nodes = []; hidden = [] }
+shown_nothing = record {
+  nodes = [];
+  hidden = [];
+  log = record { level = levels.None; props = []; author = None; moment = None; changed = [] };
+}
 
 -- the shown nodes of a revision
 abbrev pub nodes_in : Shown → ℕ → Tree
@@ -73,3 +77,7 @@ nodes_in shown rev = (slice_index_or shown.revisions rev shown_nothing).nodes
 -- the shown node at a path of a revision
 abbrev pub node_in : Shown → ℕ → List ℕ → Option TreeNode
 node_in shown rev path = at path (nodes_in shown rev)
+
+-- the record of a revision, as it is shown
+abbrev pub log_in : Shown → ℕ → ShownRecord
+log_in shown rev = (slice_index_or shown.revisions rev shown_nothing).log

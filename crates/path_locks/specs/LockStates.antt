@@ -1,5 +1,5 @@
 -- Locks of paths, at each path at most one.
-use Rattle.std.specs.Prelude.{ℕ, List, [], map, filter, Option, IsTrue}
+use Rattle.std.specs.Prelude.{ℕ, Bool, List, [], map, filter, Option, IsTrue}
 use Rattle.std.specs.List.{list_all}
 use Rattle.std.specs.Str.{bytes_eq}
 use Rattle.std.specs.FinMap.{find, put, is_sorted}
@@ -27,6 +27,10 @@ with_lock lock state = record state { locks = put (slice_cmp nat_cmp) lock.path 
 -- the locks at a path or below it, in byte order of their paths
 abbrev pub locks_under : List ℕ → LockState → List Lock
 locks_under path state = map (λ e. e.1) (filter (λ e. is_under e.0 path) state.locks)
+
+-- the locks whose paths are readable
+abbrev pub shown_locks : (List ℕ → Bool) → LockState → LockState
+shown_locks reads state = record { locks = filter (λ e. reads e.0) state.locks }
 
 -- each lock stands at its own path, and the paths strictly rise in byte order
 pub record StandInOrder (state : LockState) : Type 0 where

@@ -1,3 +1,4 @@
+pub mod Sums
 pub mod Trees
 pub mod Changes
 pub mod ChangedPaths

@@ -1,15 +1,17 @@
 ghost use Rattle.std.specs.Prelude.{◌≡◌, [], IfOk};
 ghost use Rattle.md5.specs.Md5.{md5};
+ghost use Rattle.sha1.specs.Sha1.{sha1};
 
 use crate::summed::Summed;
 use dsv_base::{Bytes, NoMemory};
 use md5::{Digest, Md5};
+use sha1::Sha1;
 use std::alloc::Global;
 use std::marker::Model;
 use std::sync::Arc;
 
-/// The text of a file with its MD5 (RFC 1321), which is made once: whoever has the text has both
-/// together with all others. Contracts see it as a list of numbers.
+/// The text of a file with its MD5 (RFC 1321) and its SHA-1 (RFC 3174), which are made once: whoever
+/// has the text has them together with all others. Contracts see it as a list of numbers.
 #[derive(Debug, Drop)]
 pub struct Text {
     held: Option<Arc<Summed>>,
@@ -67,6 +69,19 @@ impl Text {
             Some(held) => {
                 let held: &Summed = held;
                 held.md5()
+            }
+        }
+    }
+
+    /// Its SHA-1.
+    pub fn sha1(&self) -> [u8; 20]
+        ensures { result ≡ sha1 self.now }
+    {
+        match &self.held {
+            None => Sha1::digest(b"".as_slice()),
+            Some(held) => {
+                let held: &Summed = held;
+                held.sha1()
             }
         }
     }
