@@ -1,12 +1,9 @@
 -- One field of a name, and several.
-use Rattle.std.proofs.Common.{◌≡◌, ℕ, ◌-◌, ◌≤◌, true, false, List, [], ◌∷◌, length, take, drop, get_or, None, Some, refl, ap, sym, ◌∙◌, codes, arith}
+use Rattle.std.proofs.Common.{◌≡◌, ℕ, ◌-◌, ◌≤◌, true, false, List, [], ◌∷◌, length, take, drop, get_or, Some, Ok, Err, refl, ap, sym, ◌∙◌, arith}
 use Rattle.std.proofs.lemmas.List.{take_all}
 use Rattle.dsv_base.specs.declared.field.Field.{Field}
-use Rattle.http_front.specs.declared.login.Login.TheVariants.{Wrong}
-use Rattle.http_front.specs.declared.user.User.{User}
-use Rattle.http_front.specs.Fields.{is_named, has_field, values_named}
-use Rattle.http_front.specs.Framings.{only, single}
-use Rattle.http_front.specs.Logins.{authorizations, credentials_of, login_by, login_of, login_with}
+use Rattle.http_front.specs.declared.field_fault.FieldFault.TheVariants.{Doubled}
+use Rattle.http_front.specs.Fields.{is_named, has_field, values_named, one_at_most, field_named}
 
 -- a list with two items at least
 abbrev pub HasSeveral : List (List ℕ) → List ℕ → Type 0
@@ -51,25 +48,11 @@ one_named name all (g ∷ rest) f same some is named more =
     let first : values_named name (g ∷ rest) ≡ f.value ∷ values_named name rest = rw (sym is, named) refl in
     sym same ∙ first ∙ ap (λ values. f.value ∷ values) (none_named name rest (ap (has_field name) (sym (after_first g rest)) ∙ more))
 
-abbrev name : List ℕ
-name = codes "authorization"
-
-pub several_logins : (users : List User) (all rest : List Field) (f : Field) → authorizations rest ≡ authorizations all → 1 ≤ length rest → f ≡ get_or rest 0 f
-    → is_named name f ≡ true → has_field name (take (length rest - 1) (drop 1 rest)) ≡ true → Wrong ≡ login_of users all
-unfolding login_of
-several_logins users all rest f same some is named more =
-    let two = several_named name all rest f same some is named more in sym (ap (login_by users) two.2)
-
-pub one_login : (users : List User) (all rest : List Field) (f : Field) → authorizations rest ≡ authorizations all → 1 ≤ length rest → f ≡ get_or rest 0 f
-    → is_named name f ≡ true → has_field name (take (length rest - 1) (drop 1 rest)) ≡ false → login_with users (credentials_of f.value) ≡ login_of users all
-unfolding login_of
-one_login users all rest f same some is named more = sym (ap (login_by users) (one_named name all rest f same some is named more))
-
 pub several_values : (name : List ℕ) (all rest : List Field) (f : Field) → values_named name rest ≡ values_named name all → 1 ≤ length rest → f ≡ get_or rest 0 f
-    → is_named name f ≡ true → has_field name (take (length rest - 1) (drop 1 rest)) ≡ true → None ≡ single name all
+    → is_named name f ≡ true → has_field name (take (length rest - 1) (drop 1 rest)) ≡ true → field_named name all ≡ Err Doubled
 several_values name all rest f same some is named more =
-    let two = several_named name all rest f same some is named more in sym (ap only two.2)
+    let two = several_named name all rest f same some is named more in ap one_at_most two.2
 
 pub one_value : (name : List ℕ) (all rest : List Field) (f : Field) → values_named name rest ≡ values_named name all → 1 ≤ length rest → f ≡ get_or rest 0 f
-    → is_named name f ≡ true → has_field name (take (length rest - 1) (drop 1 rest)) ≡ false → Some f.value ≡ single name all
-one_value name all rest f same some is named more = sym (ap only (one_named name all rest f same some is named more))
+    → is_named name f ≡ true → has_field name (take (length rest - 1) (drop 1 rest)) ≡ false → field_named name all ≡ Ok (Some f.value)
+one_value name all rest f same some is named more = ap one_at_most (one_named name all rest f same some is named more)

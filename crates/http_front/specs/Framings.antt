@@ -1,24 +1,24 @@
 -- How a head's fields say the length of the body (RFC 9112, section 6.3). What the standard leaves to the server is refused here:
 -- several Content-Length fields, several codings, and both at once.
-use Rattle.std.specs.Prelude.{ℕ, Bool, ◌&&◌, List, [], ◌∷◌, length, codes, Option, None, Some, nat_lt, nat_le, if◌then◌else◌}
+use Rattle.std.specs.Prelude.{ℕ, Bool, ◌&&◌, List, length, codes, Option, None, Some, Result, Ok, Err, nat_lt, nat_le, if◌then◌else◌}
 use Rattle.std.specs.List.{list_all}
 use Rattle.std.specs.Str.{str_eq_ignore_ascii_case}
 use Rattle.dsv_base.specs.declared.field.Field.{Field}
 use Rattle.dsv_base.specs.Numbers.{is_digit, digits_after}
+use Rattle.http_front.specs.declared.field_fault.FieldFault.{FieldFault}
 use Rattle.http_front.specs.declared.framing.Framing.{Framing}
 use Rattle.http_front.specs.declared.framing.Framing.TheVariants.{Sized, Chunked, TooLong, Unframed}
-use Rattle.http_front.specs.Fields.{has_field, values_named}
+use Rattle.http_front.specs.Fields.{has_field, field_named}
 use Rattle.http_front.specs.Limits.{most_body_bytes, most_length_digits}
 
--- the one item of a list that has exactly one
-abbrev pub only : List (List ℕ) → Option (List ℕ)
-only [] = None
-only (value ∷ []) = Some value
-only (value ∷ next ∷ more) = None
+-- the value that was found, where no fault stands in its way
+abbrev pub without_fault : Result (Option (List ℕ)) FieldFault → Option (List ℕ)
+without_fault (Ok value) = value
+without_fault (Err fault) = None
 
 -- the value of the field of this name, where there is exactly one
 abbrev pub single : List ℕ → List Field → Option (List ℕ)
-single name fields = only (values_named name fields)
+single name fields = without_fault (field_named name fields)
 
 -- one decimal digit or several
 abbrev pub is_number : List ℕ → Bool

@@ -1,6 +1,6 @@
 -- Who the fields of a request say that it comes from: the field Authorization (RFC 9110, section 11.6.2)
 -- under the scheme Basic (RFC 7617).
-use Rattle.std.specs.Prelude.{ℕ, ⊤, IsTrue, Bool, ◌&&◌, List, [], ◌∷◌, codes, Option, None, Some, if◌then◌else◌}
+use Rattle.std.specs.Prelude.{ℕ, ⊤, IsTrue, Bool, ◌&&◌, List, codes, Option, None, Some, Result, Ok, Err, if◌then◌else◌}
 use Rattle.std.specs.List.{position_from}
 use Rattle.std.specs.Option.{option_and_then}
 use Rattle.std.specs.Str.{bytes_eq, str_eq_ignore_ascii_case}
@@ -9,14 +9,11 @@ use Rattle.base64.specs.GeneralPurpose.{decoded_of}
 use Rattle.dsv_base.specs.declared.field.Field.{Field}
 use Rattle.dsv_base.specs.Lines.{cut_at}
 use Rattle.dsv_base.specs.Names.{is_user_name}
+use Rattle.http_front.specs.declared.field_fault.FieldFault.{FieldFault}
 use Rattle.http_front.specs.declared.login.Login.{Login}
 use Rattle.http_front.specs.declared.login.Login.TheVariants.{Nobody, User, Wrong}
 use Rattle.http_front.specs.declared.user.User as user
-use Rattle.http_front.specs.Fields.{values_named}
-
--- the values of the fields Authorization
-abbrev pub authorizations : List Field → List (List ℕ)
-authorizations fields = values_named (codes "authorization") fields
+use Rattle.http_front.specs.Fields.{field_named}
 
 -- what stands after the scheme, where that is Basic, in any case of letters
 abbrev pub after_basic : List ℕ × List ℕ → Option (List ℕ)
@@ -48,15 +45,15 @@ abbrev pub login_with : List user.User → Option (List ℕ × List ℕ) → Log
 login_with users None = Wrong
 login_with users (Some pair) = as_user pair.0 (user_number users pair.0 pair.1)
 
--- the user that the one value is the credentials of
-abbrev pub login_by : List user.User → List (List ℕ) → Login
-login_by users [] = Nobody
-login_by users (value ∷ []) = login_with users (credentials_of value)
-login_by users (value ∷ next ∷ more) = Wrong
+-- the user that the value of the field Authorization is the credentials of, if there is one
+abbrev pub login_by : List user.User → Result (Option (List ℕ)) FieldFault → Login
+login_by users (Ok None) = Nobody
+login_by users (Ok (Some value)) = login_with users (credentials_of value)
+login_by users (Err fault) = Wrong
 
 -- without a field Authorization nobody; with one, the user that it names by that user's password; else it is wrong
 unfoldable pub login_of : List user.User → List Field → Login
-login_of users fields = login_by users (authorizations fields)
+login_of users fields = login_by users (field_named (codes "authorization") fields)
 
 -- where a request comes from a user, the name is one of the users grammar
 abbrev pub IsNamed : Login → Type 0

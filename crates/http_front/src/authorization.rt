@@ -3,7 +3,8 @@ ghost use Rattle.base64.specs.Engines.{standard};
 ghost use Rattle.base64.specs.GeneralPurpose.{decoded_of};
 ghost use Rattle.http_front.specs.Logins.{token_of, credentials_of, login_of, login_with, IsNamed};
 
-use crate::fields::{has_field, is_named};
+use crate::field_fault::FieldFault;
+use crate::fields::field_named;
 use crate::login::Login;
 use crate::users::Users;
 use base64::DecodeAllocError;
@@ -17,18 +18,11 @@ pub(crate) fn login_of(alloc: Global, users: &Users, fields: &[Field]) -> Result
     ensures value { IfOk result (λ login. login ≡ login_of users.now fields.now) }
     ensures named { IfOk result IsNamed }
 {
-    let mut rest = fields;
-    'fields: while let [field, after @ ..] = rest {
-        rest = after;
-        if !is_named(field, b"authorization") {
-            continue;
-        }
-        if has_field(after, b"authorization") {
-            return Ok(Login::Wrong);
-        }
-        return login_with(alloc, users, field.value.get());
+    match field_named(fields, b"authorization") {
+        Ok(None) => Ok(Login::Nobody),
+        Ok(Some(value)) => login_with(alloc, users, value),
+        Err(FieldFault::Doubled) => Ok(Login::Wrong),
     }
-    Ok(Login::Nobody)
 }
 
 /// The user that the value is the credentials of.

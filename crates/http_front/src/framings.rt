@@ -3,7 +3,8 @@ ghost use Rattle.std.specs.List.{list_all};
 ghost use Rattle.dsv_base.specs.Numbers.{is_digit};
 ghost use Rattle.http_front.specs.Framings.{framing, single, is_number, length_framing, coding_framing};
 
-use crate::fields::{has_field, is_named};
+use crate::field_fault::FieldFault;
+use crate::fields::{field_named, has_field};
 use crate::framing::Framing;
 use dsv_base::{Field, read_digits};
 
@@ -41,18 +42,10 @@ pub(crate) fn framing(fields: &[Field]) -> Framing
 fn single<'a>(fields: &'a [Field], name: &[u8]) -> Option<&'a [u8]>
     ensures { option_copied result ≡ single name.now fields.now }
 {
-    let mut rest = fields;
-    'fields: while let [field, after @ ..] = rest {
-        rest = after;
-        if !is_named(field, name) {
-            continue;
-        }
-        if has_field(after, name) {
-            return None;
-        }
-        return Some(field.value.get());
+    match field_named(fields, name) {
+        Ok(value) => value,
+        Err(FieldFault::Doubled) => None,
     }
-    None
 }
 
 #[tactic(auto, unfolding(crate::specs::Framings::coding_framing))]

@@ -9,6 +9,7 @@ mod chunk_step;
 mod chunks;
 mod connection;
 mod data_end;
+mod field_fault;
 mod fields;
 mod framing;
 mod framings;
@@ -33,6 +34,7 @@ mod users_fault;
 mod users_file;
 
 pub use dsv_base::{Field, Person};
+pub use field_fault::FieldFault;
 pub use front::Front;
 pub use login::Login;
 pub use message_laws::{

@@ -1,3 +1,9 @@
+ghost use Rattle.std.specs.Prelude.{option_copied};
+ghost use Rattle.dsv_base.specs.Gives.{GivesBy};
+ghost use Rattle.http_front.specs.Fields.{field_named, none_is_free};
+
+use crate::field_fault::FieldFault;
+use crate::fields::field_named;
 use crate::login::Login;
 use dsv_base::{Bytes, Field, List};
 
@@ -15,4 +21,17 @@ pub struct Request {
     pub body: Bytes,
     /// Whether the connection has no further request after this one.
     pub last: bool,
+}
+
+impl Request {
+    /// The value of the field of this name, in any case of letters (RFC 9110, section 5.1), if there is
+    /// one.
+    ///
+    /// # Errors
+    /// Several fields have the name.
+    pub fn field(&self, name: &[u8]) -> Result<Option<&[u8]>, FieldFault>
+        ensures { GivesBy option_copied none_is_free result (field_named name.now self.now.fields) }
+    {
+        field_named(self.fields.get(), name)
+    }
 }

@@ -1,6 +1,6 @@
 use Rattle.std.proofs.Common.{◌≡◌, length}
 use Rattle.http_front.specs.Fields.{values_named}
-use Rattle.http_front.proofs.framings.single.Given as goal
+use Rattle.http_front.proofs.fields.field_named.Given as goal
 
 -- no field so far has the name
 abbrev pub invariant-fields : goal.invariant-fields

@@ -1,6 +1,6 @@
-use Rattle.std.proofs.Common.{◌∙◌, sym, ap, Some}
+use Rattle.std.proofs.Common.{◌∙◌, ℕ, List, sym, ap, Some, Ok}
 use Rattle.http_front.proofs.NamedFields.{several_values, one_value}
-use Rattle.http_front.proofs.framings.single.Goals as goal
+use Rattle.http_front.proofs.fields.field_named.Goals as goal
 
 pub returns-then-has_field : goal.returns-then-has_field
 returns-then-has_field c =
@@ -9,6 +9,6 @@ returns-then-has_field c =
 
 pub returns-in-len1-up : goal.returns-in-len1-up
 returns-in-len1-up c =
-    ap (λ v. Some v) c.get.ensures
-    ∙ one_value c.args.name.now c.args.fields.now c.fields.rest.now c.field-item.result c.fields.invariant c.in-len1-up.len_at_least c.field-item.is
+    one_value c.args.name.now c.args.fields.now c.fields.rest.now c.field-item.result c.fields.invariant c.in-len1-up.len_at_least c.field-item.is
     (sym c.is_named.ensures ∙ c.if-not-is_named.false) (sym c.has_field.ensures ∙ c.if-has_field.false)
+    ∙ ap (λ (value : List ℕ). Ok (Some value)) (sym c.get.ensures)
