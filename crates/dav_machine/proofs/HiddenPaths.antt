@@ -14,7 +14,8 @@ use Rattle.dav_replies.specs.declared.method.Method.{Method}
 use Rattle.dav_replies.specs.declared.refusal.Refusal.{Refusal}
 use Rattle.dav_replies.specs.declared.refusal.Refusal.TheVariants.{BadTarget, NeedsLogin}
 use Rattle.dav_machine.specs.declared.asked.Asked.{Asked}
-use Rattle.dav_machine.specs.declared.asked.Asked.TheVariants.{Options, Get, Head}
+use Rattle.dav_machine.specs.declared.asked.Asked.TheVariants.{Options, Get, Head, Propfind}
+use Rattle.dav_machine.specs.declared.headed.Headed.{Headed}
 use Rattle.dav_machine.specs.Chains.{or_bad_target, kind_of, by_method, by_headers, by_body, viewer, by_login, path_in, aim_of, denied, by_rule, permit_of, by_aim, permitted}
 use Rattle.dav_machine.specs.Laws.{path_asked}
 
@@ -22,6 +23,7 @@ aims : (asked : Asked) (resource : Resource) → (aim_of asked resource).path �
 aims Options resource = refl
 aims Get resource = refl
 aims Head resource = refl
+aims (Propfind children wanted) resource = refl
 
 module _ (name : List ℕ) (rules : List Rule) (path : List ℕ) where
   user_refused : (user : Option (List ℕ)) (resource : Resource) (asked : Asked) → path_in resource ≡ Some path → can_read rules name user path ≡ false → by_aim rules name user resource asked ≡ Err (denied user)
@@ -29,21 +31,26 @@ module _ (name : List ℕ) (rules : List Rule) (path : List ℕ) where
       ap (λ (p : Option (List ℕ)). by_rule rules name user p >>= (λ q. Ok (permit_of resource asked))) (aims asked resource ∙ e)
       ∙ ap (λ (b : Bool). (if b then Ok (Some path) else Err (denied user)) >>= (λ q. Ok (permit_of resource asked))) hidden
 
-  login_refused : (request : Request) (resource : Resource) (asked : Asked) (login : Login) → path_in resource ≡ Some path → can_read rules name (viewer login) path ≡ false → (refusal : Refusal) × ((by_login login >>= (λ user. by_body asked request >>= (λ b. by_aim rules name user resource b))) ≡ Err refusal)
-  login_refused request resource asked Nobody e hidden = (denied None, user_refused None resource asked e hidden)
-  login_refused request resource asked (User person) e hidden = (denied (Some person.name), user_refused (Some person.name) resource asked e hidden)
-  login_refused request resource asked Wrong e hidden = (NeedsLogin, refl)
+  -- whether the body is refused or not
+  body_refused : (user : Option (List ℕ)) (resource : Resource) (asked : Result Asked Refusal) → path_in resource ≡ Some path → can_read rules name user path ≡ false → (refusal : Refusal) × ((asked >>= (λ b. by_aim rules name user resource b)) ≡ Err refusal)
+  body_refused user resource (Ok asked) e hidden = (denied user, user_refused user resource asked e hidden)
+  body_refused user resource (Err refusal) e hidden = (refusal, refl)
 
-  asked_refused : (request : Request) (resource : Resource) (login : Login) (asked : Result Asked Refusal) → path_in resource ≡ Some path → can_read rules name (viewer login) path ≡ false → (refusal : Refusal) × ((asked >>= (λ a. by_login login >>= (λ user. by_body a request >>= (λ b. by_aim rules name user resource b)))) ≡ Err refusal)
-  asked_refused request resource login (Ok asked) e hidden = login_refused request resource asked login e hidden
-  asked_refused request resource login (Err refusal) e hidden = (refusal, refl)
+  login_refused : (request : Request) (resource : Resource) (said : Headed) (login : Login) → path_in resource ≡ Some path → can_read rules name (viewer login) path ≡ false → (refusal : Refusal) × ((by_login login >>= (λ user. by_body said request >>= (λ b. by_aim rules name user resource b))) ≡ Err refusal)
+  login_refused request resource said Nobody e hidden = body_refused None resource (by_body said request) e hidden
+  login_refused request resource said (User person) e hidden = body_refused (Some person.name) resource (by_body said request) e hidden
+  login_refused request resource said Wrong e hidden = (NeedsLogin, refl)
 
-  method_refused : (request : Request) (resource : Resource) (login : Login) (method : Result Method Refusal) → path_in resource ≡ Some path → can_read rules name (viewer login) path ≡ false → (refusal : Refusal) × ((method >>= (λ m. by_headers m request >>= (λ a. by_login login >>= (λ user. by_body a request >>= (λ b. by_aim rules name user resource b))))) ≡ Err refusal)
-  method_refused request resource login (Ok method) e hidden = asked_refused request resource login (by_headers method request) e hidden
+  headers_refused : (request : Request) (resource : Resource) (login : Login) (said : Result Headed Refusal) → path_in resource ≡ Some path → can_read rules name (viewer login) path ≡ false → (refusal : Refusal) × ((said >>= (λ a. by_login login >>= (λ user. by_body a request >>= (λ b. by_aim rules name user resource b)))) ≡ Err refusal)
+  headers_refused request resource login (Ok said) e hidden = login_refused request resource said login e hidden
+  headers_refused request resource login (Err refusal) e hidden = (refusal, refl)
+
+  method_refused : (request : Request) (resource : Resource) (login : Login) (method : Result Method Refusal) → path_in resource ≡ Some path → can_read rules name (viewer login) path ≡ false → (refusal : Refusal) × ((method >>= (λ m. by_headers (kind_of resource) m request >>= (λ a. by_login login >>= (λ user. by_body a request >>= (λ b. by_aim rules name user resource b))))) ≡ Err refusal)
+  method_refused request resource login (Ok method) e hidden = headers_refused request resource login (by_headers (kind_of resource) method request) e hidden
   method_refused request resource login (Err refusal) e hidden = (refusal, refl)
 
   target_refused : (request : Request) (found : Option Resource) → option_and_then path_in found ≡ Some path → can_read rules name (viewer request.login) path ≡ false
-      → (refusal : Refusal) × ((or_bad_target found >>= (λ resource. by_method (kind_of resource) request.method >>= (λ m. by_headers m request >>= (λ a. by_login request.login >>= (λ user. by_body a request >>= (λ b. by_aim rules name user resource b)))))) ≡ Err refusal)
+      → (refusal : Refusal) × ((or_bad_target found >>= (λ resource. by_method (kind_of resource) request.method >>= (λ m. by_headers (kind_of resource) m request >>= (λ a. by_login request.login >>= (λ user. by_body a request >>= (λ b. by_aim rules name user resource b)))))) ≡ Err refusal)
   target_refused request None e hidden = (BadTarget, refl)
   target_refused request (Some resource) e hidden = method_refused request resource request.login (by_method (kind_of resource) request.method) e hidden
 

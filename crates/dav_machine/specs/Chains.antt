@@ -1,11 +1,16 @@
 -- The chain that every request goes through, as far as the repository's name, the rules and the request decide it:
--- target, method, headers, login, body, rule. The first step that refuses is the answer. As yet no method that is
--- answered has a body, or headers that matter.
+-- target, method, headers, login, body, rule. The first step that refuses is the answer.
 use Rattle.std.specs.Prelude.{ℕ, ◌≡◌, ⊤, Bool, true, false, List, Option, None, Some, Result, Ok, Err, option_to_list, if◌then◌else◌}
 use Rattle.std.specs.Str.{bytes_eq}
 use Rattle.dsv_base.specs.Paths.{root_text}
 use Rattle.dsv_base.specs.Gives.{◌>>=◌}
 use Rattle.dsv_base.specs.declared.form.Form.TheVariants.{Later}
+use Rattle.dav_bodies.specs.Bodies.{body_read}
+use Rattle.dav_bodies.specs.declared.body.Body.{Body}
+use Rattle.dav_bodies.specs.declared.body.Body.TheVariants as bodies
+use Rattle.dav_bodies.specs.declared.body_fault.BodyFault.{BodyFault}
+use Rattle.dav_bodies.specs.declared.body_fault.BodyFault.TheVariants as faults
+use Rattle.dav_bodies.specs.declared.body_kind.BodyKind.TheVariants as kinds
 use Rattle.http_front.specs.declared.login.Login.{Login}
 use Rattle.http_front.specs.declared.login.Login.TheVariants.{Nobody, User, Wrong}
 use Rattle.http_front.specs.declared.request.Request.{Request}
@@ -18,11 +23,14 @@ use Rattle.dav_replies.specs.declared.allow_kind.AllowKind.TheVariants as allow
 use Rattle.dav_replies.specs.declared.method.Method.{Method}
 use Rattle.dav_replies.specs.declared.method.Method.TheVariants as sent
 use Rattle.dav_replies.specs.declared.refusal.Refusal.{Refusal}
-use Rattle.dav_replies.specs.declared.refusal.Refusal.TheVariants.{BadTarget, NeedsLogin, Denied, WrongMethod, NotInProfile}
+use Rattle.dav_replies.specs.declared.refusal.Refusal.TheVariants.{BadTarget, BadBody, NeedsLogin, Denied, WrongMethod, NotInProfile, NoMemory}
 use Rattle.authz_file.specs.declared.rule.Rule.{Rule}
 use Rattle.authz_check.specs.Access.{can_read}
 use Rattle.dav_machine.specs.declared.asked.Asked.{Asked}
 use Rattle.dav_machine.specs.declared.asked.Asked.TheVariants as ask
+use Rattle.dav_machine.specs.declared.headed.Headed.{Headed}
+use Rattle.dav_machine.specs.declared.headed.Headed.TheVariants as headed
+use Rattle.dav_machine.specs.Depths.{depth_of, children_asked}
 
 -- ---- target
 
@@ -57,23 +65,30 @@ by_method kind name = or_wrong_method kind (method_of name)
 
 -- ---- headers
 
--- what is asked for by the method, as its headers say it; as yet no header is read. What isn't built yet is refused by
--- name, in the method's place
-abbrev pub by_headers : Method → Request → Result Asked Refusal
-by_headers sent.Options request = Ok ask.Options
-by_headers sent.Get request = Ok ask.Get
-by_headers sent.Head request = Ok ask.Head
-by_headers sent.Propfind request = Err (NotInProfile Later)
-by_headers sent.Report request = Err (NotInProfile Later)
-by_headers sent.Post request = Err (NotInProfile Later)
-by_headers sent.Put request = Err (NotInProfile Later)
-by_headers sent.Mkcol request = Err (NotInProfile Later)
-by_headers sent.Proppatch request = Err (NotInProfile Later)
-by_headers sent.Delete request = Err (NotInProfile Later)
-by_headers sent.Copy request = Err (NotInProfile Later)
-by_headers sent.Merge request = Err (NotInProfile Later)
-by_headers sent.Lock request = Err (NotInProfile Later)
-by_headers sent.Unlock request = Err (NotInProfile Later)
+-- what the headers of a PROPFIND of a resource of this kind say: its depth
+abbrev pub propfind_headed : AllowKind → Request → Result Headed Refusal
+propfind_headed kind request = do
+  depth ← depth_of request.fields
+  children ← children_asked kind depth
+  Ok (headed.Propfind children)
+
+-- what the headers say by the method, of a resource of this kind. What isn't built yet is refused by name, in the method's
+-- place
+abbrev pub by_headers : AllowKind → Method → Request → Result Headed Refusal
+by_headers kind sent.Options request = Ok headed.Options
+by_headers kind sent.Get request = Ok headed.Get
+by_headers kind sent.Head request = Ok headed.Head
+by_headers kind sent.Propfind request = propfind_headed kind request
+by_headers kind sent.Report request = Err (NotInProfile Later)
+by_headers kind sent.Post request = Err (NotInProfile Later)
+by_headers kind sent.Put request = Err (NotInProfile Later)
+by_headers kind sent.Mkcol request = Err (NotInProfile Later)
+by_headers kind sent.Proppatch request = Err (NotInProfile Later)
+by_headers kind sent.Delete request = Err (NotInProfile Later)
+by_headers kind sent.Copy request = Err (NotInProfile Later)
+by_headers kind sent.Merge request = Err (NotInProfile Later)
+by_headers kind sent.Lock request = Err (NotInProfile Later)
+by_headers kind sent.Unlock request = Err (NotInProfile Later)
 
 -- ---- login
 
@@ -91,9 +106,19 @@ by_login Wrong = Err NeedsLogin
 
 -- ---- body
 
--- what is asked for, with what the body says; as yet no body is read
-abbrev pub by_body : Asked → Request → Result Asked Refusal
-by_body asked request = Ok asked
+-- a PROPFIND of what its body says, with the children or without
+abbrev pub propfind_asked : Bool → Result Body BodyFault → Result Asked Refusal
+propfind_asked children (Ok (bodies.Propfind wanted)) = Ok (ask.Propfind children wanted)
+propfind_asked children (Err faults.BadBody) = Err BadBody
+propfind_asked children (Err (faults.NotInProfile form)) = Err (NotInProfile form)
+propfind_asked children (Err faults.NoMemory) = Err NoMemory
+
+-- what is asked for, by what the headers and the body say; only the body of a PROPFIND is looked at
+abbrev pub by_body : Headed → Request → Result Asked Refusal
+by_body headed.Options request = Ok ask.Options
+by_body headed.Get request = Ok ask.Get
+by_body headed.Head request = Ok ask.Head
+by_body (headed.Propfind children) request = propfind_asked children (body_read kinds.Propfind request.body)
 
 -- ---- rule
 
@@ -135,6 +160,7 @@ abbrev pub aim_of : Asked → Resource → Aim
 aim_of ask.Options resource = target_aim resource
 aim_of ask.Get resource = target_aim resource
 aim_of ask.Head resource = target_aim resource
+aim_of (ask.Propfind children wanted) resource = target_aim resource
 
 -- how a reader without the right is refused: somebody who has logged in can do no more
 abbrev pub denied : Option (List ℕ) → Refusal
@@ -173,9 +199,9 @@ unfoldable pub permitted : List ℕ → List Rule → Request → Result Permit 
 permitted name rules request = do
   resource ← by_target name request.target
   method ← by_method (kind_of resource) request.method
-  headed ← by_headers method request
+  said ← by_headers (kind_of resource) method request
   user ← by_login request.login
-  asked ← by_body headed request
+  asked ← by_body said request
   by_aim rules name user resource asked
 
 -- ---- what the method alone decides

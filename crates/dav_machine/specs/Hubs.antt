@@ -4,30 +4,33 @@ use Rattle.rev_nodes.specs.Forests.{Forest, repository_of}
 use Rattle.authz_file.specs.declared.rule.Rule.{Rule}
 use Rattle.authz_check.specs.Policies.{PolicyState}
 use Rattle.dsv_outside.specs.Causes.{last_count}
+use Rattle.path_locks.specs.LockStates.{LockState, no_locks}
 use Rattle.dav_machine.specs.declared.event.Event.{Event}
 use Rattle.dav_machine.specs.Histories.{HistoryEntry, replay, commits, failures}
 use Rattle.dav_machine.specs.States.{State, opening_state, youngest_of}
 
--- the state that a hub opened with, its trees and rules as they are now, what was done between the two, its keeper as it
--- was at first and as it is now
+-- the state that a hub opened with, its trees, rules and locks as they are now, what was done between the two, its keeper
+-- as it was at first and as it is now
 pub record HubState (K : Type 0) : Type 0 where
   pub opening : State
   pub trees : Forest
   pub rules : List Rule
+  pub locks : LockState
   pub history : List HistoryEntry
   pub first_keeper : K
   pub keeper : K
 
 -- the state of a hub as it is now
 abbrev pub present_state : {K : Type 0} → HubState K → State
-present_state hub = opening_state (repository_of hub.trees) hub.rules
+present_state hub = record { repository = repository_of hub.trees; rules = hub.rules; locks = hub.locks }
 
--- a hub over these, with nothing done yet
+-- a hub over these, with no locks and nothing done yet
 abbrev pub new_hub : {K : Type 0} → Forest → PolicyState → K → HubState K
 new_hub trees policy keeper = record {
   opening = opening_state (repository_of trees) policy.rules;
   trees = trees;
   rules = policy.rules;
+  locks = no_locks;
   history = [];
   first_keeper = keeper;
   keeper = keeper;

@@ -5,6 +5,7 @@ pub mod Media
 pub mod Listings
 pub mod ShownEntries
 pub mod Replies
+pub mod Depths
 pub mod Chains
 pub mod ReadReplies
 pub mod Histories

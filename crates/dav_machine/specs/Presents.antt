@@ -6,22 +6,24 @@ use Rattle.authz_check.specs.Policies.{PolicyState}
 use Rattle.authz_file.specs.declared.rule.Rule.{Rule}
 use Rattle.dav_names.specs.Targets.{root_of}
 use Rattle.log_access.specs.Shown.{Shown, shown_of}
+use Rattle.path_locks.specs.LockStates.{LockState, no_locks}
 use Rattle.dav_machine.specs.Chains.{IsReadable}
-use Rattle.dav_machine.specs.States.{State, opening_state}
+use Rattle.dav_machine.specs.States.{State}
 use Rattle.dav_machine.specs.Views.{View, view_of}
 
--- trees whose nodes have numbers, and the rules
+-- trees whose nodes have numbers, the rules and the locks
 pub record PresentState : Type 0 where
   pub trees : Forest
   pub rules : List Rule
+  pub locks : LockState
 
--- trees and a policy, as contracts see them together
+-- trees and a policy, as contracts see them together, with no locks yet
 abbrev pub present_of : Forest → PolicyState → PresentState
-present_of trees policy = record { trees = trees; rules = policy.rules }
+present_of trees policy = record { trees = trees; rules = policy.rules; locks = no_locks }
 
 -- the state of the machine that this is: the numbers are no part of it
 abbrev pub state_of : PresentState → State
-state_of present = opening_state (repository_of present.trees) present.rules
+state_of present = record { repository = repository_of present.trees; rules = present.rules; locks = present.locks }
 
 -- where targets reach the repository
 abbrev pub root_in : PresentState → List ℕ

@@ -16,15 +16,16 @@ pub struct Aim<'a> {
 }
 
 /// The aim of what is asked for.
-pub fn aim_of(asked: Asked, resource: &Resource) -> Aim<'_>
-    ensures path { option_copied result.path ≡ (aim_of asked resource.now).path }
-    ensures revisions { option_to_list result.revision ≡ (aim_of asked resource.now).revisions }
-    ensures meant { result.revision ≡ (aim_of asked resource.now).meant }
+pub fn aim_of<'a>(asked: &Asked, resource: &'a Resource) -> Aim<'a>
+    ensures path { option_copied result.path ≡ (aim_of asked.now resource.now).path }
+    ensures revisions { option_to_list result.revision ≡ (aim_of asked.now resource.now).revisions }
+    ensures meant { result.revision ≡ (aim_of asked.now resource.now).meant }
 {
     match asked {
         Asked::Options => target_aim(resource),
         Asked::Get => target_aim(resource),
         Asked::Head => target_aim(resource),
+        Asked::Propfind { .. } => target_aim(resource),
     }
 }
 

@@ -1,6 +1,8 @@
+use dav_bodies::Wanted;
+
 /// What a request asks for: one variant for each method that is answered yet, with what its headers and
 /// its body say.
-#[derive(Clone, Copy, Debug, PartialEq, Eq)]
+#[derive(Debug, Drop)]
 pub enum Asked {
     /// What the server can do, and where its resources are (RFC 9110, section 9.3.7).
     Options,
@@ -8,4 +10,7 @@ pub enum Asked {
     Get,
     /// The same without the content (section 9.3.2).
     Head,
+    /// These properties of a node or a revision, and of a node's children too or not (RFC 4918,
+    /// section 9.1).
+    Propfind { children: bool, wanted: Wanted },
 }

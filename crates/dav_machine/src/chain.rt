@@ -1,15 +1,21 @@
 ghost use Rattle.std.specs.Prelude.{◌≡◌, IfOk, Some};
 ghost use Rattle.std.specs.Option.{option_copied};
 ghost use Rattle.dsv_base.specs.Gives.{Gives, GivesBy};
+ghost use Rattle.dav_bodies.specs.Bodies.{body_read};
+ghost use Rattle.dav_bodies.specs.declared.body_kind.BodyKind.TheVariants as kinds;
 ghost use Rattle.dav_names.specs.Targets.{target};
 ghost use Rattle.dav_replies.specs.Faults.{refusal_no_memory};
-ghost use Rattle.dav_machine.specs.Chains.{or_bad_target, kind_of, by_method, by_headers, by_body, viewer, by_login};
+ghost use Rattle.dav_machine.specs.Chains.{or_bad_target, kind_of, by_method, viewer, by_login};
+ghost use Rattle.dav_machine.specs.Chains.{propfind_headed, by_headers, propfind_asked, by_body};
 ghost use Rattle.dav_machine.specs.Chains.{aim_of, by_rule, denied, permit_of, permitted, is_head_method, is_head};
 ghost use Rattle.dav_machine.specs.Presents.{MayRead};
 
 use crate::aim::aim_of;
 use crate::asked::Asked;
+use crate::depth::Depth;
+use crate::headed::Headed;
 use crate::present::Present;
+use dav_bodies::{Body, BodyFault, BodyKind, read_body};
 use dav_names::{Resource, TargetFault, read_target};
 use dav_replies::{AllowKind, Form, Method, Refusal};
 use dsv_base::Path;
@@ -40,11 +46,12 @@ pub fn permitted<'a>(
         (λ p. MayRead present.now (option_copied p.user) (aim_of p.asked p.resource).path) }
 {
     let resource = by_target(alloc, present.root(), request.target.get())?;
-    let method = by_method(kind_of(&resource), request.method.get())?;
-    let headed = by_headers(method, request)?;
+    let kind = kind_of(&resource);
+    let method = by_method(kind, request.method.get())?;
+    let headed = by_headers(kind, method, request)?;
     let user = by_login(&request.login)?;
-    let asked = by_body(headed, request)?;
-    by_rule(present, user, aim_of(asked, &resource).path)?;
+    let asked = by_body(alloc, headed, request)?;
+    by_rule(present, user, aim_of(&asked, &resource).path)?;
     Ok(Permit {
         resource,
         asked,
@@ -94,17 +101,17 @@ fn by_method(kind: AllowKind, name: &[u8]) -> Result<Method, Refusal>
     }
 }
 
-/// What is asked for by the method, as its headers say it; as yet no header is read. What isn't built yet
-/// is refused by name.
-fn by_headers(method: Method, request: &Request) -> Result<Asked, Refusal>
-    ensures { Gives refusal_no_memory result (by_headers method request.now) }
+/// What the headers say by the method, of a resource of the kind. What isn't built yet is refused by
+/// name.
+fn by_headers(kind: AllowKind, method: Method, request: &Request) -> Result<Headed, Refusal>
+    ensures { Gives refusal_no_memory result (by_headers kind method request.now) }
 {
     match method {
-        Method::Options => Ok(Asked::Options),
-        Method::Get => Ok(Asked::Get),
-        Method::Head => Ok(Asked::Head),
-        Method::Propfind
-        | Method::Report
+        Method::Options => Ok(Headed::Options),
+        Method::Get => Ok(Headed::Get),
+        Method::Head => Ok(Headed::Head),
+        Method::Propfind => propfind_headed(kind, request),
+        Method::Report
         | Method::Post
         | Method::Put
         | Method::Mkcol
@@ -115,6 +122,15 @@ fn by_headers(method: Method, request: &Request) -> Result<Asked, Refusal>
         | Method::Lock
         | Method::Unlock => Err(Refusal::NotInProfile { form: Form::Later }),
     }
+}
+
+/// What the headers of a PROPFIND of a resource of the kind say.
+fn propfind_headed(kind: AllowKind, request: &Request) -> Result<Headed, Refusal>
+    ensures { Gives refusal_no_memory result (propfind_headed kind request.now) }
+{
+    let depth = Depth::of(request)?;
+    let children = depth.asks_children(kind)?;
+    Ok(Headed::Propfind { children })
 }
 
 /// The name of the user, if somebody is logged in. A wrong login is refused before anything is looked at.
@@ -129,11 +145,29 @@ fn by_login(login: &Login) -> Result<Option<&[u8]>, Refusal>
     }
 }
 
-/// What is asked for, with what the body says; as yet no body is read.
-fn by_body(asked: Asked, request: &Request) -> Result<Asked, Refusal>
-    ensures { Gives refusal_no_memory result (by_body asked request.now) }
+/// What is asked for, by what the headers and the body say. It is read behind the login, so that nobody
+/// with a wrong one makes work.
+fn by_body(alloc: Global, headed: Headed, request: &Request) -> Result<Asked, Refusal>
+    ensures { Gives refusal_no_memory result (by_body headed request.now) }
 {
-    Ok(asked)
+    match headed {
+        Headed::Options => Ok(Asked::Options),
+        Headed::Get => Ok(Asked::Get),
+        Headed::Head => Ok(Asked::Head),
+        Headed::Propfind { children } => propfind_asked(alloc, children, request.body.get()),
+    }
+}
+
+/// A PROPFIND of what its body says, with the children or without.
+fn propfind_asked(alloc: Global, children: bool, body: &[u8]) -> Result<Asked, Refusal>
+    ensures { Gives refusal_no_memory result (propfind_asked children (body_read kinds.Propfind body.now)) }
+{
+    match read_body(alloc, BodyKind::Propfind, body) {
+        Ok(Body::Propfind(wanted)) => Ok(Asked::Propfind { children, wanted }),
+        Err(BodyFault::BadBody) => Err(Refusal::BadBody),
+        Err(BodyFault::NotInProfile { form }) => Err(Refusal::NotInProfile { form }),
+        Err(BodyFault::NoMemory) => Err(Refusal::NoMemory),
+    }
 }
 
 /// The path, if there is one, which the user has to be allowed to read. The rule is asked before the tree

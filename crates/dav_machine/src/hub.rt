@@ -19,8 +19,8 @@ use std::alloc::Global;
 use std::marker::Model;
 use std::snapshot::Snapshot;
 
-/// The repository machine: the trees and the rights in them, what was done to them since it began, and
-/// the keeper of what is done. Contracts see these, and beside them the state and the keeper that it
+/// The repository machine: the trees, the rights in them and the locks, what was done to them since it
+/// began, and the keeper of what is done. Contracts see these, and beside them the state and the keeper that it
 /// began with.
 #[derive(Drop)]
 pub struct Hub<K: Keeper> {
@@ -47,6 +47,7 @@ impl<K: Keeper> Model for Hub<K> {
       opening = state_of h.opening.value;
       trees = h.present.trees;
       rules = h.present.rules;
+      locks = h.present.locks;
       history = entries_by_events h.history.items h.names.items;
       first_keeper = h.first_keeper.value;
       keeper = h.keeper;

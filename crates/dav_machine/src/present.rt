@@ -7,16 +7,18 @@ ghost use Rattle.dav_machine.specs.Presents.{present_of};
 use authz_check::Policy;
 use dav_names::root_of;
 use dsv_base::{Bytes, NoMemory, Path};
+use path_locks::Locks;
 use rev_trees::Trees;
 use std::alloc::Global;
 use std::marker::Model;
 
-/// The present state, from which requests are answered. Contracts see it as the trees and the rules: the
-/// rights are those in the repository of these trees.
+/// The present state, from which requests are answered. Contracts see it as the trees, the rules and the
+/// locks: the rights are those in the repository of these trees.
 #[derive(Debug, Drop)]
 pub struct Present {
     trees: Trees,
     policy: Policy,
+    locks: Locks,
     /// The path of the repository in targets: `/svn/NAME`.
     root: Bytes,
 }
@@ -26,14 +28,14 @@ impl Model for Present {
 
     ghost Value = { PresentState };
 
-    ghost view = { λ p. record { trees = p.trees; rules = p.policy.rules } };
+    ghost view = { λ p. record { trees = p.trees; rules = p.policy.rules; locks = p.locks } };
 
     ghost invariant = { λ p. IsPresent p.trees p.policy p.root };
 }
 
 impl Present {
-    /// The state of these trees, with a policy that is one for their name. Its one error is want of
-    /// memory.
+    /// The state of these trees without locks, with a policy that is one for their name. Its one error is
+    /// want of memory.
     pub fn of(alloc: Global, trees: Trees, policy: Policy) -> Result<Present, NoMemory>
         requires { policy.name ≡ trees.name }
         ensures { IfOk result (λ present. present ≡ present_of trees policy) }
@@ -42,6 +44,7 @@ impl Present {
         Ok(Present {
             trees,
             policy,
+            locks: Locks::new(alloc),
             root,
         })
     }
@@ -59,6 +62,20 @@ impl Present {
         &self.trees
     }
 
+    pub fn locks(&self) -> &Locks
+        ensures { result.now ≡ self.now.locks }
+    {
+        &self.locks
+    }
+
+    /// The rules in the repository of these trees.
+    pub fn policy(&self) -> &Policy
+        ensures rules { result.now.rules ≡ self.now.rules }
+        ensures name { result.now.name ≡ self.now.trees.name }
+    {
+        &self.policy
+    }
+
     /// Whether the user may read the path.
     pub fn can_read(&self, user: Option<&[u8]>, path: &Path) -> bool
         ensures { result ≡ can_read self.now.rules self.now.trees.name (option_copied user.entry) path.now }
@@ -73,6 +90,7 @@ impl Present {
         let Present {
             trees,
             policy: _,
+            locks: _,
             root: _,
         } = self;
         trees

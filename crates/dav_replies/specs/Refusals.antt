@@ -11,7 +11,7 @@ use Rattle.dav_replies.specs.declared.refusal.Refusal.{Refusal}
 use Rattle.dav_replies.specs.declared.refusal.Refusal.TheVariants.{NeedsLogin, InfiniteDepth, NoRevision, WrongMethod, Exists, OutOfDate, Conflict, WrongText, Locked, NotInProfile}
 use Rattle.dav_replies.specs.Methods.{allow_list}
 use Rattle.dav_replies.specs.Tables.{row_of, form_name}
-use Rattle.dav_replies.specs.Replies.{field_of, reply_text}
+use Rattle.dav_replies.specs.Replies.{field_of, xml_type, reply_text}
 
 -- the sum that was told and that of the text, in hexadecimal
 abbrev pub sums_text : List ℕ → List ℕ → List ℕ
@@ -61,10 +61,6 @@ own_fields NeedsLogin = field_of (codes "WWW-Authenticate") (codes "Basic realm=
 own_fields (WrongMethod kind) = field_of (codes "Allow") (allow_list kind) ∷ []
 own_fields (Exists kind) = field_of (codes "Allow") (allow_list kind) ∷ []
 own_fields _ = []
-
--- the type of a body in XML
-abbrev pub xml_type : Field
-xml_type = field_of (codes "Content-Type") (codes "text/xml; charset=\"utf-8\"")
 
 -- the reply that tells a refusal
 unfoldable pub refusal_reply : Refusal → Reply

@@ -1,5 +1,5 @@
 -- The bytes of a reply (RFC 9112, section 4).
-use Rattle.std.specs.Prelude.{ℕ, Bool, IsTrue, List, [], ◌++◌, length, ◌==◌, ◌&&◌, ◌||◌, not, codes, unwrap_or, if◌then◌else◌}
+use Rattle.std.specs.Prelude.{ℕ, Bool, IsTrue, true, List, [], ◌∷◌, ◌++◌, length, ◌==◌, ◌&&◌, ◌||◌, not, codes, unwrap_or, if◌then◌else◌}
 use Rattle.std.specs.List.{flat_map}
 use Rattle.std.specs.Fmt.{decimal}
 use Rattle.dsv_base.specs.declared.field.Field.{Field}
@@ -21,6 +21,14 @@ IsWritable reply = IsTrue (is_writable reply)
 -- a field by its name and its value
 abbrev pub field_of : List ℕ → List ℕ → Field
 field_of name value = record { name = name; value = value }
+
+-- the field that tells the type of a body in XML
+abbrev pub xml_type : Field
+xml_type = field_of (codes "Content-Type") (codes "text/xml; charset=\"utf-8\"")
+
+-- the reply whose body is this multistatus (RFC 4918, section 13)
+unfoldable pub multistatus_reply : List ℕ → Reply
+multistatus_reply document = record { status = 207; fields = xml_type ∷ []; content = document; has_content = true }
 
 -- the line of a field (RFC 9112, section 5)
 abbrev pub field_line : List ℕ → List ℕ → List ℕ

@@ -5,8 +5,10 @@
 mod allow_kind;
 mod detail;
 mod error_body;
+mod fields;
 mod laws;
 mod method;
+mod multistatus;
 mod no_memory;
 mod refusal;
 mod refusals;
@@ -18,6 +20,7 @@ pub use dsv_base::{Field, Form, Reply};
 pub use laws::{codes_are_in_order, ending_codes, methods_read_back, statuses_have_reasons};
 pub use method::{Method, allow_list};
 pub use no_memory::no_memory_bytes;
+pub use multistatus::multistatus_reply;
 pub use refusal::Refusal;
 pub use refusals::{refusal_bytes, refusal_reply};
 pub use writing::reply_bytes;

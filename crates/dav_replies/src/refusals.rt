@@ -1,8 +1,9 @@
 ghost use Rattle.std.specs.Prelude.{◌≡◌, IfOk};
-ghost use Rattle.dav_replies.specs.Replies.{field_of, IsWritable};
+ghost use Rattle.dav_replies.specs.Replies.{IsWritable};
 ghost use Rattle.dav_replies.specs.Refusals.{refusal_reply, refusal_bytes, own_fields};
 
 use crate::error_body::error_body;
+use crate::fields::{field_of, xml_type};
 use crate::method::allow_list;
 use crate::refusal::Refusal;
 use crate::tables::row_of;
@@ -18,7 +19,7 @@ pub fn refusal_reply(alloc: Global, refusal: &Refusal) -> Result<Reply, NoMemory
     ensures writable { IfOk result IsWritable }
 {
     let mut fields = own_fields(alloc, refusal)?;
-    fields.push(field_of(alloc, b"Content-Type", b"text/xml; charset=\"utf-8\"")?)?;
+    fields.push(xml_type(alloc)?)?;
     let content = error_body(alloc, refusal)?;
     Ok(Reply {
         status: row_of(refusal).status,
@@ -45,15 +46,6 @@ fn own_fields(alloc: Global, refusal: &Refusal) -> Result<Vec<Field>, NoMemory>
         _ => {}
     }
     Ok(fields)
-}
-
-fn field_of(alloc: Global, name: &[u8], value: &[u8]) -> Result<Field, NoMemory>
-    ensures { IfOk result (λ field. field ≡ field_of name.now value.now) }
-{
-    Ok(Field {
-        name: Bytes::of(alloc, name)?,
-        value: Bytes::of(alloc, value)?,
-    })
 }
 
 /// The bytes of the reply that tells a refusal, to HEAD and on the connection's end as
