@@ -13,7 +13,7 @@ use Rattle.dav_replies.specs.declared.refusal.Refusal.{Refusal}
 use Rattle.dav_replies.specs.declared.refusal.Refusal.TheVariants.{NoNode, NoRevision}
 use Rattle.log_access.specs.Shown.{Shown, node_in, nodes_in}
 use Rattle.dav_machine.specs.declared.asked.Asked.{Asked}
-use Rattle.dav_machine.specs.declared.asked.Asked.TheVariants.{Options, Get, Head}
+use Rattle.dav_machine.specs.declared.asked.Asked.TheVariants.{Options, Get, Head, Propfind}
 use Rattle.dav_machine.specs.Chains.{Aim, Permit, aim_of}
 use Rattle.dav_machine.specs.Listings.{listing_text, children_in}
 use Rattle.dav_machine.specs.Media.{media_type}
@@ -68,6 +68,7 @@ asked_reply view Options resource rev path =
     Ok (options_reply (root_of view.shown.name) view.shown.uuid view.shown.youngest)
 asked_reply view Get resource rev path = content_at view.shown resource rev path
 asked_reply view Head resource rev path = content_at view.shown resource rev path
+asked_reply view (Propfind children wanted) resource rev path = Err NoNode
 
 -- what is answered of this aim
 abbrev pub aimed_reply : View → Asked → Resource → Aim → Result Reply Refusal

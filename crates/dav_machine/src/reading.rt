@@ -30,12 +30,12 @@ pub fn read_answer(
     alloc: Global,
     present: &Present,
     user: Option<&[u8]>,
-    asked: Asked,
+    asked: &Asked,
     resource: &Resource,
 ) -> Result<Reply, Refusal>
-    requires readable { MayRead present.now (option_copied user) (aim_of asked resource.now).path }
+    requires readable { MayRead present.now (option_copied user) (aim_of asked.now resource.now).path }
     ensures value { Gives refusal_no_memory result
-        (read_answer (view_to present.now (option_copied user.entry)) (permit_of resource.now asked)) }
+        (read_answer (view_to present.now (option_copied user.entry)) (permit_of resource.now asked.now)) }
     ensures writable { IfOk result IsWritable }
 {
     let aim = aim_of(asked, resource);
@@ -67,7 +67,7 @@ fn asked_reply(
     alloc: Global,
     present: &Present,
     user: Option<&[u8]>,
-    asked: Asked,
+    asked: &Asked,
     resource: &Resource,
     rev: Rev,
     path: Option<&Path>,
@@ -76,13 +76,14 @@ fn asked_reply(
     requires there { rev < length present.now.trees.revisions }
     ensures value { Gives refusal_no_memory result
         (asked_reply (view_to present.now (option_copied user.entry))
-        asked resource.now rev (option_copied path.entry)) }
+        asked.now resource.now rev (option_copied path.entry)) }
     ensures writable { IfOk result IsWritable }
 {
     match asked {
         Asked::Options => what_the_server_can(alloc, present),
         Asked::Get => content_at(alloc, present, user, resource, rev, path),
         Asked::Head => content_at(alloc, present, user, resource, rev, path),
+        Asked::Propfind { .. } => Err(Refusal::NoNode),
     }
 }
 

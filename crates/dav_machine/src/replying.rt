@@ -41,5 +41,5 @@ fn answered(alloc: Global, present: &Present, request: &Request) -> Result<Reply
     ensures writable { IfOk result IsWritable }
 {
     let permit = permitted(alloc, present, request)?;
-    read_answer(alloc, present, permit.user, permit.asked, &permit.resource)
+    read_answer(alloc, present, permit.user, &permit.asked, &permit.resource)
 }
