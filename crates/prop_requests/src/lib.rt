@@ -1,7 +1,3 @@
-//! What a PROPFIND answers: the properties of a node or a revision (RFC 4918, sections 9.1, 14 and 15;
-//! Subversion's notes on WebDAV). As yet this crate has the definitions and the list of live properties.
+//! What a PROPFIND answers (RFC 4918, sections 9.1 and 13; Subversion's notes on WebDAV). As yet this crate
+//! has the definitions.
 #![tactic(auto)]
-
-mod live;
-
-pub use live::Live;
