@@ -18,15 +18,18 @@ use Rattle.dav_names.specs.declared.resource.Resource.TheVariants.{Public, Me, R
 use Rattle.dav_names.specs.Written.{target_text, resource_text}
 use Rattle.dav_documents.specs.Namespaces.{uri_of}
 use Rattle.dav_documents.specs.Written.{Written, attribute, empty_element, text_element, element, joined, all_of, page_text, body_text}
+use Rattle.log_access.specs.Records.{ShownRecord}
+use Rattle.log_access.specs.declared.level.Level.TheVariants as levels
 use Rattle.path_locks.specs.declared.lock.Lock.{Lock}
 use Rattle.path_locks.specs.LockStates.{no_locks, with_lock}
-use Rattle.prop_requests.specs.PropTags.{tag_of}
-use Rattle.prop_requests.specs.Contents.{value_content}
-use Rattle.prop_requests.specs.LiveNames.{live_named}
-use Rattle.prop_requests.specs.Subjects.{RevisionFacts, PropSources, YoungestNode, subject_of, children_of}
-use Rattle.prop_requests.specs.LiveValues.{live_value, lock_element}
-use Rattle.prop_requests.specs.DeadValues.{dead_values, dead_value}
-use Rattle.prop_requests.specs.Multistatus.{value_named, response_element, multistatus_tree, propfind_text}
+use Rattle.prop_values.specs.PropTags.{tag_of}
+use Rattle.prop_values.specs.Contents.{value_content}
+use Rattle.prop_values.specs.LiveNames.{live_named}
+use Rattle.prop_values.specs.Subjects.{PropSources, YoungestNode, subject_of, children_of}
+use Rattle.prop_values.specs.LiveValues.{live_value, lock_element}
+use Rattle.prop_values.specs.DeadValues.{dead_values, dead_value}
+use Rattle.prop_values.specs.Responses.{value_named, response_element}
+use Rattle.prop_requests.specs.Multistatus.{multistatus_tree, propfind_text}
 
 -- ---- the repository
 
@@ -47,14 +50,16 @@ abbrev nodes_2 : Tree
 nodes_2 = (codes "/", new_dir 2) ∷ (codes "/a", marked_file) ∷ (codes "/b c", new_dir 2) ∷ (codes "/b c/x", new_file (codes "xy") 2) ∷ []
 
 -- revision 1 is shown, and nothing of revision 2
-abbrev facts : ℕ → RevisionFacts
-facts zero = record { props = []; author = None; moment = None }
+abbrev facts : ℕ → ShownRecord
+facts zero = record { level = levels.None; props = []; author = None; moment = None; changed = [] }
 facts (suc zero) = record {
+  level = levels.Full;
   props = record { name = codes "svn:log"; value = codes "first" } ∷ [];
   author = Some (codes "ann");
   moment = Some 784111777000000;
+  changed = [];
 }
-facts (suc (suc rev)) = record { props = []; author = None; moment = None }
+facts (suc (suc rev)) = record { level = levels.None; props = []; author = None; moment = None; changed = [] }
 
 abbrev sources : PropSources
 sources = record {
@@ -193,29 +198,3 @@ no_answer : propfind_text sources (Public (codes "/sec")) true None ∷ propfind
     ≡ None ∷ None ∷ None ∷ []
 unfolding propfind_text subject_of children_of multistatus_tree response_element value_named live_named live_value dead_values dead_value value_content lock_element tag_of parent_text target_text resource_text url_text body_text page_text xml_text uri_of digits iso_text http_text part_at xml_plain is_utf8 chars encode encode_symbols
 no_answer = refl
-
--- all properties of a file of the youngest revision: its elements in their order
-abbrev whole_file_elements : List Written
-whole_file_elements =
-    empty_element (codes "D:resourcetype") []
-    ∷ text_element (codes "D:getcontentlength") [] (codes "3")
-    ∷ text_element (codes "D:version-name") [] (codes "1")
-    ∷ text_element (codes "D:creationdate") [] (codes "1994-11-06T08:49:37.000000Z")
-    ∷ text_element (codes "D:getlastmodified") [] (codes "Sun, 06 Nov 1994 08:49:37 GMT")
-    ∷ text_element (codes "D:creator-displayname") [] (codes "ann")
-    ∷ element (codes "D:checked-in") [] (text_element (codes "D:href") [] (codes "/svn/demo/!svn/rvr/2/a"))
-    ∷ empty_element (codes "D:lockdiscovery") []
-    ∷ text_element (codes "V:baseline-relative-path") [] (codes "a")
-    ∷ text_element (codes "V:repository-uuid") [] (codes "u-1")
-    ∷ text_element (codes "V:md5-checksum") [] (encode_lower (md5 (codes "abc")))
-    ∷ text_element (codes "V:sha1-checksum") [] (encode_lower (sha1 (codes "abc")))
-    ∷ text_element (codes "V:deadprop-count") [] (codes "2")
-    ∷ text_element (codes "C:note") (attribute (codes "V:encoding") (codes "base64") ∷ []) (codes "AQ==")
-    ∷ text_element (codes "S:eol-style") [] (codes "native")
-    ∷ []
-
--- they are all that is told of it, before the dead ones in byte order of their own names
-whole_file : response_element sources None (YoungestNode (record { rev = 2; path = codes "/a"; node = marked_file.node }))
-    ≡ element (codes "D:response") [] (joined (text_element (codes "D:href") [] (codes "/svn/demo/a")) (element (codes "D:propstat") [] (joined (element (codes "D:prop") [] (all_of whole_file_elements)) (text_element (codes "D:status") [] (codes "HTTP/1.1 200 OK")))))
-unfolding propfind_text subject_of children_of multistatus_tree response_element value_named live_named live_value dead_values dead_value value_content lock_element tag_of parent_text target_text resource_text url_text body_text page_text xml_text uri_of digits iso_text http_text part_at xml_plain is_utf8 chars encode encode_symbols
-whole_file = refl

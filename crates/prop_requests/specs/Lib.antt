@@ -1,7 +1,3 @@
-pub mod PropTags
-pub mod Contents
-pub mod LiveNames
-pub mod Subjects
-pub mod LiveValues
-pub mod DeadValues
 pub mod Multistatus
+pub mod Sights
+pub mod Propfinds

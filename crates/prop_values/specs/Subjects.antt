@@ -2,7 +2,6 @@
 use Rattle.std.specs.Prelude.{ℕ, List, [], ◌++◌, map, codes, Option, Some, None, if◌then◌else◌}
 use Rattle.std.specs.List.{filter_map}
 use Rattle.std.specs.Option.{option_map}
-use Rattle.dsv_base.specs.declared.prop.Prop.{Prop}
 use Rattle.rev_nodes.specs.declared.kind.Kind.{Kind}
 use Rattle.rev_nodes.specs.declared.kind.Kind.TheVariants.{File, Dir}
 use Rattle.rev_nodes.specs.declared.node.Node.{Node}
@@ -11,14 +10,8 @@ use Rattle.rev_nodes.specs.Trees.{Tree, TreeNode, at}
 use Rattle.dav_names.specs.declared.resource.Resource.{Resource}
 use Rattle.dav_names.specs.declared.resource.Resource.TheVariants.{Public, Me, Rvr, RevOnly, Txr, Txn}
 use Rattle.dav_names.specs.Written.{target_text}
+use Rattle.log_access.specs.Records.{ShownRecord}
 use Rattle.path_locks.specs.LockStates.{LockState}
-
--- what the user is shown of the record of a revision: its properties, in byte order of their names, which are neither
--- author nor date; its author, where there is one and it is shown; and its moment, where that is shown
-pub record RevisionFacts : Type 0 where
-  pub props : List Prop
-  pub author : Option (List ℕ)
-  pub moment : Option ℕ
 
 -- all that answers about properties are told from: where the repository stands, its uuid, the number of its youngest
 -- revision, and of each revision the nodes and the record as the user is shown them; and the locks of its paths
@@ -27,7 +20,7 @@ pub record PropSources : Type 0 where
   pub uuid : List ℕ
   pub youngest : ℕ
   pub nodes_of : ℕ → Tree
-  pub facts_of : ℕ → RevisionFacts
+  pub facts_of : ℕ → ShownRecord
   pub locks : LockState
 
 -- a node, with the revision and the path at which it is asked

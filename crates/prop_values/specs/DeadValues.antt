@@ -8,9 +8,10 @@ use Rattle.std.specs.Cmp.Lexicographic.{slice_cmp}
 use Rattle.dsv_base.specs.declared.prop.Prop.{Prop}
 use Rattle.dsv_base.specs.declared.prop_name.PropName.{PropName}
 use Rattle.dsv_dates.specs.Dates.{iso_text}
-use Rattle.prop_requests.specs.PropTags.{same_name, dead_name}
-use Rattle.prop_requests.specs.Contents.{Content, value_content}
-use Rattle.prop_requests.specs.Subjects.{RevisionFacts, PropSources, Subject, YoungestNode, RevisionNode, WholeRevision}
+use Rattle.prop_values.specs.PropTags.{same_name, dead_name}
+use Rattle.log_access.specs.Records.{ShownRecord}
+use Rattle.prop_values.specs.Contents.{Content, value_content}
+use Rattle.prop_values.specs.Subjects.{PropSources, Subject, YoungestNode, RevisionNode, WholeRevision}
 
 -- properties by name and value
 abbrev pub named_values : List Prop → List (List ℕ × List ℕ)
@@ -23,7 +24,7 @@ with_shown name (Some value) values = put (slice_cmp nat_cmp) name value values
 
 -- the properties of a revision by name and value, as they are shown, in byte order of the names: its author and its date,
 -- as Subversion writes it, are among them where they are shown
-abbrev pub revision_values : RevisionFacts → List (List ℕ × List ℕ)
+abbrev pub revision_values : ShownRecord → List (List ℕ × List ℕ)
 revision_values facts =
     with_shown (codes "svn:author") facts.author
     (with_shown (codes "svn:date") (option_map iso_text facts.moment) (named_values facts.props))

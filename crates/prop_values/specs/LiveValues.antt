@@ -13,10 +13,11 @@ use Rattle.dav_names.specs.Written.{target_text}
 use Rattle.dav_documents.specs.Written.{Written, empty_element, text_element, element, joined}
 use Rattle.path_locks.specs.declared.lock.Lock.{Lock}
 use Rattle.path_locks.specs.LockStates.{lock_at}
-use Rattle.prop_requests.specs.Contents.{Content, no_content, inside_content, text_content, value_content, content_element}
-use Rattle.prop_requests.specs.Subjects.{RevisionFacts, PropSources, NodePlace, Subject, YoungestNode, RevisionNode, WholeRevision, subject_place}
-use Rattle.prop_requests.specs.declared.live.Live.{Live}
-use Rattle.prop_requests.specs.declared.live.Live.TheVariants.{ResourceType, ContentLength, VersionName, CreationDate, LastModified, CreatorName, CheckedIn, LockDiscovery, RelativePath, RepositoryUuid, Md5Checksum, Sha1Checksum, PropertyCount}
+use Rattle.log_access.specs.Records.{ShownRecord}
+use Rattle.prop_values.specs.Contents.{Content, no_content, inside_content, text_content, value_content, content_element}
+use Rattle.prop_values.specs.Subjects.{PropSources, NodePlace, Subject, YoungestNode, RevisionNode, WholeRevision, subject_place}
+use Rattle.prop_values.specs.declared.live.Live.{Live}
+use Rattle.prop_values.specs.declared.live.Live.TheVariants.{ResourceType, ContentLength, VersionName, CreationDate, LastModified, CreatorName, CheckedIn, LockDiscovery, RelativePath, RepositoryUuid, Md5Checksum, Sha1Checksum, PropertyCount}
 
 -- ---- what they are told from
 
@@ -36,7 +37,7 @@ told_revision (RevisionNode place) = place.node.created
 told_revision (WholeRevision rev) = rev
 
 -- what is shown of the record of that revision
-abbrev pub told_facts : PropSources → Subject → RevisionFacts
+abbrev pub told_facts : PropSources → Subject → ShownRecord
 told_facts sources subject = sources.facts_of (told_revision subject)
 
 -- ---- their parts

@@ -5,7 +5,7 @@ use Rattle.base64.specs.GeneralPurpose.{encode_of}
 use Rattle.dsv_base.specs.Escapes.{xml_plain}
 use Rattle.dsv_base.specs.declared.prop_name.PropName.{PropName}
 use Rattle.dav_documents.specs.Written.{Attribute, attribute, Written, Nothing, Element}
-use Rattle.prop_requests.specs.PropTags.{tag_of}
+use Rattle.prop_values.specs.PropTags.{tag_of}
 
 -- what an element holds, with the attributes that tell how: attributes, a text, and elements behind it
 pub record Content : Type 0 where

@@ -3,9 +3,9 @@ use Rattle.std.specs.Prelude.{List, [], ◌∷◌, codes, Option}
 use Rattle.std.specs.List.{find}
 use Rattle.dsv_base.specs.declared.prop_name.PropName.{PropName}
 use Rattle.dav_documents.specs.declared.namespace.Namespace.TheVariants.{Dav, SubversionDav}
-use Rattle.prop_requests.specs.PropTags.{name_within, same_name}
-use Rattle.prop_requests.specs.declared.live.Live.{Live}
-use Rattle.prop_requests.specs.declared.live.Live.TheVariants.{ResourceType, ContentLength, VersionName, CreationDate, LastModified, CreatorName, CheckedIn, LockDiscovery, RelativePath, RepositoryUuid, Md5Checksum, Sha1Checksum, PropertyCount}
+use Rattle.prop_values.specs.PropTags.{name_within, same_name}
+use Rattle.prop_values.specs.declared.live.Live.{Live}
+use Rattle.prop_values.specs.declared.live.Live.TheVariants.{ResourceType, ContentLength, VersionName, CreationDate, LastModified, CreatorName, CheckedIn, LockDiscovery, RelativePath, RepositoryUuid, Md5Checksum, Sha1Checksum, PropertyCount}
 
 -- the live properties, in the order in which they are told where all are asked for
 abbrev pub live_order : List Live
