@@ -1,4 +1,5 @@
 mod Getting
+mod Asking
 mod Listed
 mod Fields
 pub mod Talking

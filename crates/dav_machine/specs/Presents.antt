@@ -1,5 +1,5 @@
 -- The present state, as the program keeps it.
-use Rattle.std.specs.Prelude.{ℕ, ◌≡◌, Bool, List, Option}
+use Rattle.std.specs.Prelude.{ℕ, ◌≡◌, ◌<◌, ⊤, Bool, List, Option, None, Some}
 use Rattle.rev_nodes.specs.Forests.{Forest, repository_of}
 use Rattle.authz_check.specs.Access.{can_read}
 use Rattle.authz_check.specs.Policies.{PolicyState}
@@ -7,6 +7,7 @@ use Rattle.authz_file.specs.declared.rule.Rule.{Rule}
 use Rattle.dav_names.specs.Targets.{root_of}
 use Rattle.log_access.specs.Shown.{Shown, shown_of}
 use Rattle.path_locks.specs.LockStates.{LockState, no_locks}
+use Rattle.prop_requests.specs.Sights.{SightState}
 use Rattle.dav_machine.specs.Chains.{IsReadable}
 use Rattle.dav_machine.specs.States.{State}
 use Rattle.dav_machine.specs.Views.{View, view_of}
@@ -44,6 +45,21 @@ shown_to present user = shown_of (repository_of present.trees) present.rules use
 -- what a user may see
 abbrev pub view_to : PresentState → Option (List ℕ) → View
 view_to present user = view_of (state_of present) user
+
+-- what a user sees, who asks about properties
+abbrev pub sight_of : PresentState → Option (List ℕ) → SightState
+sight_of present user = record {
+  trees = present.trees;
+  rules = present.rules;
+  locks = present.locks;
+  user = user;
+  root = root_in present;
+}
+
+-- the revision that is named, if one is, is one of so many
+abbrev pub IsThere : ℕ → Option ℕ → Type 0
+IsThere count None = ⊤
+IsThere count (Some rev) = rev < count
 
 -- the policy is one for the repository of these trees, and this is where targets reach it
 pub record IsPresent (trees : Forest) (policy : PolicyState) (root : List ℕ) : Type 0 where

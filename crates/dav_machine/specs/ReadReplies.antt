@@ -10,8 +10,14 @@ use Rattle.rev_nodes.specs.Trees.{TreeNode}
 use Rattle.dav_names.specs.declared.resource.Resource.{Resource}
 use Rattle.dav_names.specs.Targets.{root_of}
 use Rattle.dav_replies.specs.declared.refusal.Refusal.{Refusal}
-use Rattle.dav_replies.specs.declared.refusal.Refusal.TheVariants.{NoNode, NoRevision}
+use Rattle.dav_replies.specs.declared.refusal.Refusal.TheVariants.{NoNode, NoRevision, NoMemory}
+use Rattle.dav_replies.specs.Replies.{multistatus_reply}
 use Rattle.log_access.specs.Shown.{Shown, node_in, nodes_in}
+use Rattle.prop_values.specs.Subjects.{PropSources}
+use Rattle.prop_requests.specs.Propfinds.{propfind_answer}
+use Rattle.prop_requests.specs.Sights.{sources_of}
+use Rattle.prop_requests.specs.declared.propfind_fault.PropfindFault.{PropfindFault}
+use Rattle.prop_requests.specs.declared.propfind_fault.PropfindFault.TheVariants as faults
 use Rattle.dav_machine.specs.declared.asked.Asked.{Asked}
 use Rattle.dav_machine.specs.declared.asked.Asked.TheVariants.{Options, Get, Head, Propfind}
 use Rattle.dav_machine.specs.Chains.{Aim, Permit, aim_of}
@@ -60,6 +66,18 @@ abbrev pub content_at : Shown → Resource → ℕ → Option (List ℕ) → Res
 content_at shown resource rev None = Err NoNode
 content_at shown resource rev (Some path) = get_reply shown resource rev path
 
+-- ---- properties
+
+-- what answers about properties are told from
+abbrev pub sources_in : View → PropSources
+sources_in view = sources_of (root_of view.shown.name) view.shown view.locks
+
+-- properties are told as a multistatus, of what is there
+abbrev pub propfind_reply : Result (List ℕ) PropfindFault → Result Reply Refusal
+propfind_reply (Ok document) = Ok (multistatus_reply document)
+propfind_reply (Err faults.NoNode) = Err NoNode
+propfind_reply (Err faults.NoMemory) = Err NoMemory
+
 -- ---- the answer, by what is asked for: OPTIONS needs no node
 
 -- what is answered of this revision and path
@@ -68,7 +86,8 @@ asked_reply view Options resource rev path =
     Ok (options_reply (root_of view.shown.name) view.shown.uuid view.shown.youngest)
 asked_reply view Get resource rev path = content_at view.shown resource rev path
 asked_reply view Head resource rev path = content_at view.shown resource rev path
-asked_reply view (Propfind children wanted) resource rev path = Err NoNode
+asked_reply view (Propfind children wanted) resource rev path =
+    propfind_reply (propfind_answer (sources_in view) resource children wanted)
 
 -- what is answered of this aim
 abbrev pub aimed_reply : View → Asked → Resource → Aim → Result Reply Refusal

@@ -18,6 +18,7 @@ mod listing;
 mod media;
 mod outgoing;
 mod present;
+mod properties;
 mod reading;
 mod replies;
 mod replying;

@@ -2,12 +2,13 @@ ghost use Rattle.std.specs.Prelude.{◌≡◌, IfOk};
 ghost use Rattle.std.specs.Option.{option_copied};
 ghost use Rattle.authz_check.specs.Access.{can_read};
 ghost use Rattle.dav_names.specs.Targets.{root_of};
-ghost use Rattle.dav_machine.specs.Presents.{present_of};
+ghost use Rattle.dav_machine.specs.Presents.{present_of, sight_of};
 
 use authz_check::Policy;
 use dav_names::root_of;
 use dsv_base::{Bytes, NoMemory, Path};
 use path_locks::Locks;
+use prop_requests::Sight;
 use rev_trees::Trees;
 use std::alloc::Global;
 use std::marker::Model;
@@ -62,18 +63,11 @@ impl Present {
         &self.trees
     }
 
-    pub fn locks(&self) -> &Locks
-        ensures { result.now ≡ self.now.locks }
+    /// What a user sees, who asks about properties.
+    pub fn sight<'a>(&'a self, user: Option<&'a [u8]>) -> Sight<'a>
+        ensures { result ≡ sight_of self.now (option_copied user.entry) }
     {
-        &self.locks
-    }
-
-    /// The rules in the repository of these trees.
-    pub fn policy(&self) -> &Policy
-        ensures rules { result.now.rules ≡ self.now.rules }
-        ensures name { result.now.name ≡ self.now.trees.name }
-    {
-        &self.policy
+        Sight::of(&self.trees, &self.policy, &self.locks, user, self.root.get())
     }
 
     /// Whether the user may read the path.

@@ -5,7 +5,8 @@ ghost use Rattle.rev_nodes.specs.Forests.{id_at};
 ghost use Rattle.dav_replies.specs.Faults.{refusal_no_memory};
 ghost use Rattle.dav_replies.specs.Replies.{IsWritable};
 ghost use Rattle.dav_machine.specs.Chains.{aim_of, permit_of};
-ghost use Rattle.dav_machine.specs.Presents.{root_in, may_read, MayRead, shown_to, view_to};
+ghost use Rattle.prop_requests.specs.Sights.{IsAskable};
+ghost use Rattle.dav_machine.specs.Presents.{root_in, may_read, sight_of, IsThere, MayRead, shown_to, view_to};
 ghost use Rattle.dav_machine.specs.Replies.{options_reply};
 ghost use Rattle.dav_machine.specs.ReadReplies.{read_answer, asked_reply, content_at, get_reply, by_revisions};
 
@@ -15,6 +16,7 @@ use crate::asked_path::AskedPath;
 use crate::listing::listing;
 use crate::media::media_type;
 use crate::present::Present;
+use crate::properties::propfind_reply;
 use crate::replies::{content_reply, options_reply};
 use dav_names::Resource;
 use dav_replies::Refusal;
@@ -48,6 +50,7 @@ fn by_revisions(trees: &Trees, named: Option<Rev>) -> Result<Rev, Refusal>
     ensures value { Gives refusal_no_memory result
         (by_revisions (length trees.now.revisions - 1) (option_to_list named) named) }
     ensures there { IfOk result (λ rev. rev < length trees.now.revisions) }
+    ensures named { IfOk result (λ rev. IsThere (length trees.now.revisions) named) }
 {
     let youngest = trees.youngest();
     match named {
@@ -62,7 +65,7 @@ fn by_revisions(trees: &Trees, named: Option<Rev>) -> Result<Rev, Refusal>
 }
 
 /// What is answered of this revision and path, by what is asked for.
-#[tactic(auto, using(crate::proofs::Getting::options_shown))]
+#[tactic(auto, using(crate::proofs::Getting::options_shown, crate::proofs::Asking::propfind_shown))]
 fn asked_reply(
     alloc: Global,
     present: &Present,
@@ -74,6 +77,7 @@ fn asked_reply(
 ) -> Result<Reply, Refusal>
     requires readable { MayRead present.now (option_copied user) (option_copied path) }
     requires there { rev < length present.now.trees.revisions }
+    requires askable { IsAskable (sight_of present.now (option_copied user)) resource.now }
     ensures value { Gives refusal_no_memory result
         (asked_reply (view_to present.now (option_copied user.entry))
         asked.now resource.now rev (option_copied path.entry)) }
@@ -83,7 +87,9 @@ fn asked_reply(
         Asked::Options => what_the_server_can(alloc, present),
         Asked::Get => content_at(alloc, present, user, resource, rev, path),
         Asked::Head => content_at(alloc, present, user, resource, rev, path),
-        Asked::Propfind { .. } => Err(Refusal::NoNode),
+        Asked::Propfind { children, wanted } => {
+            propfind_reply(alloc, present, user, resource, *children, wanted)
+        }
     }
 }
 
