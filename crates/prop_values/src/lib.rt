@@ -3,5 +3,13 @@
 #![tactic(auto)]
 
 mod live;
+mod query;
+mod response;
+mod subject;
+mod told;
 
 pub use live::Live;
+pub use query::Query;
+pub use response::write_response;
+pub use subject::{NodePlace, Subject};
+pub use told::Told;
