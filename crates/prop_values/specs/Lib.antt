@@ -5,5 +5,7 @@ pub mod Places
 pub mod Subjects
 pub mod LiveValues
 pub mod DeadValues
+pub mod Values
+pub mod LookedUp
 pub mod Responses
 pub mod Records

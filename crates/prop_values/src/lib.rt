@@ -3,10 +3,14 @@
 #![tactic(auto)]
 
 mod live;
+mod live_names;
+mod names;
 mod query;
 mod response;
 mod subject;
+mod tag;
 mod told;
+mod value;
 
 pub use live::Live;
 pub use query::Query;
