@@ -5,8 +5,9 @@ use Rattle.dsv_base.specs.declared.prop_name.PropName.{PropName}
 use Rattle.dav_names.specs.declared.resource.Resource.{Resource}
 use Rattle.dav_documents.specs.Written.{Written, element, for_each, body_text}
 use Rattle.prop_values.specs.PropTags.{prefix_bindings}
-use Rattle.prop_values.specs.Subjects.{PropSources, Subject, subject_of, children_of}
+use Rattle.prop_values.specs.Subjects.{PropSources, subject_of, children_of}
 use Rattle.prop_values.specs.Responses.{response_element}
+use Rattle.prop_values.specs.declared.subject.Subject.{Subject}
 
 -- the answer about several, one after another
 unfoldable pub multistatus_tree : PropSources → Option (List PropName) → List Subject → Written

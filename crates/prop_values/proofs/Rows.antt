@@ -1,5 +1,5 @@
 -- What is told of a file, computed; and how names are written.
-use Rattle.std.proofs.Common.{◌≡◌, ℕ, zero, suc, true, false, List, [], ◌∷◌, ◌++◌, None, Some, refl}
+use Rattle.std.proofs.Common.{◌≡◌, ℕ, zero, suc, List, [], ◌∷◌, None, Some, refl}
 use Rattle.std.specs.Prelude.{codes}
 use Rattle.std.specs.Fmt.{digits}
 use Rattle.std.specs.Str.{is_utf8, chars}
@@ -10,25 +10,23 @@ use Rattle.sha1.specs.Sha1.{sha1}
 use Rattle.std.proofs.Math.Utf8.{encode}
 use Rattle.dsv_base.specs.Escapes.{xml_text, xml_plain, url_text}
 use Rattle.dsv_base.specs.Paths.{parent_text}
-use Rattle.dsv_base.specs.declared.prop_name.PropName.{PropName}
 use Rattle.dsv_dates.specs.Dates.{iso_text, http_text, part_at}
 use Rattle.rev_nodes.specs.declared.kind.Kind.TheVariants.{File}
 use Rattle.rev_nodes.specs.Trees.{Tree, TreeNode, new_dir, new_file, new_line}
-use Rattle.dav_names.specs.declared.resource.Resource.TheVariants.{Public, Me, Rvr, RevOnly}
 use Rattle.dav_names.specs.Written.{target_text, resource_text}
 use Rattle.dav_documents.specs.Namespaces.{uri_of}
 use Rattle.dav_documents.specs.Written.{Written, attribute, empty_element, text_element, element, joined, all_of, page_text, body_text}
 use Rattle.log_access.specs.Records.{ShownRecord}
 use Rattle.log_access.specs.declared.level.Level.TheVariants as levels
-use Rattle.path_locks.specs.declared.lock.Lock.{Lock}
-use Rattle.path_locks.specs.LockStates.{no_locks, with_lock}
+use Rattle.path_locks.specs.LockStates.{no_locks}
 use Rattle.prop_values.specs.PropTags.{tag_of}
 use Rattle.prop_values.specs.Contents.{value_content}
 use Rattle.prop_values.specs.LiveNames.{live_named}
-use Rattle.prop_values.specs.Subjects.{PropSources, YoungestNode, subject_of, children_of}
+use Rattle.prop_values.specs.Subjects.{PropSources, told_of}
+use Rattle.prop_values.specs.declared.subject.Subject.TheVariants.{YoungestNode}
 use Rattle.prop_values.specs.LiveValues.{live_value, lock_element}
 use Rattle.prop_values.specs.DeadValues.{dead_values, dead_value}
-use Rattle.prop_values.specs.Responses.{value_named, response_element}
+use Rattle.prop_values.specs.Responses.{value_named, response_about, response_element}
 
 -- ---- the repository
 
@@ -93,7 +91,7 @@ whole_file_elements =
 -- they are all that is told of it, before the dead ones in byte order of their own names
 whole_file : response_element sources None (YoungestNode (record { rev = 2; path = codes "/a"; node = marked_file.node }))
     ≡ element (codes "D:response") [] (joined (text_element (codes "D:href") [] (codes "/svn/demo/a")) (element (codes "D:propstat") [] (joined (element (codes "D:prop") [] (all_of whole_file_elements)) (text_element (codes "D:status") [] (codes "HTTP/1.1 200 OK")))))
-unfolding response_element value_named live_named live_value dead_values dead_value value_content lock_element tag_of parent_text target_text resource_text url_text body_text page_text xml_text uri_of digits iso_text http_text part_at xml_plain is_utf8 chars encode encode_symbols
+unfolding response_about told_of value_named live_named live_value dead_values dead_value value_content lock_element tag_of parent_text target_text resource_text url_text body_text page_text xml_text uri_of digits iso_text http_text part_at xml_plain is_utf8 chars encode encode_symbols
 whole_file = refl
 
 -- no prefix may be bound to the namespace of the prefix xml, which is bound to it without that

@@ -5,7 +5,7 @@ use Rattle.base64.specs.GeneralPurpose.{encode_of}
 use Rattle.dsv_base.specs.Escapes.{xml_plain}
 use Rattle.dsv_base.specs.declared.prop_name.PropName.{PropName}
 use Rattle.dav_documents.specs.Written.{Attribute, attribute, Written, Nothing, Element}
-use Rattle.prop_values.specs.PropTags.{tag_of}
+use Rattle.prop_values.specs.PropTags.{PropTag, tag_of}
 
 -- what an element holds, with the attributes that tell how: attributes, a text, and elements behind it
 pub record Content : Type 0 where
@@ -41,6 +41,10 @@ value_content value = if xml_plain value then text_content value else encoded_co
 abbrev pub content_element : List ℕ → List Attribute → Content → Written
 content_element name attributes content = Element name (attributes ++ content.attributes) content.text content.inside Nothing
 
+-- the element with this tag and this content
+abbrev pub tagged_element : PropTag → Content → Written
+tagged_element tag content = content_element tag.name tag.attributes content
+
 -- the element of a property of this name, with this content
 abbrev pub property_element : PropName → Content → Written
-property_element name content = content_element (tag_of name).name (tag_of name).attributes content
+property_element name content = tagged_element (tag_of name) content

@@ -9,9 +9,10 @@ use Rattle.dsv_base.specs.declared.prop.Prop.{Prop}
 use Rattle.dsv_base.specs.declared.prop_name.PropName.{PropName}
 use Rattle.dsv_dates.specs.Dates.{iso_text}
 use Rattle.prop_values.specs.PropTags.{same_name, dead_name}
-use Rattle.log_access.specs.Records.{ShownRecord}
 use Rattle.prop_values.specs.Contents.{Content, value_content}
-use Rattle.prop_values.specs.Subjects.{PropSources, Subject, YoungestNode, RevisionNode, WholeRevision}
+use Rattle.prop_values.specs.Places.{Told}
+use Rattle.prop_values.specs.declared.subject.Subject.{Subject}
+use Rattle.prop_values.specs.declared.subject.Subject.TheVariants.{YoungestNode, RevisionNode, WholeRevision}
 
 -- properties by name and value
 abbrev pub named_values : List Prop → List (List ℕ × List ℕ)
@@ -24,19 +25,19 @@ with_shown name (Some value) values = put (slice_cmp nat_cmp) name value values
 
 -- the properties of a revision by name and value, as they are shown, in byte order of the names: its author and its date,
 -- as Subversion writes it, are among them where they are shown
-abbrev pub revision_values : ShownRecord → List (List ℕ × List ℕ)
-revision_values facts =
-    with_shown (codes "svn:author") facts.author
-    (with_shown (codes "svn:date") (option_map iso_text facts.moment) (named_values facts.props))
+abbrev pub revision_values : Told → List (List ℕ × List ℕ)
+revision_values told =
+    with_shown (codes "svn:author") told.author
+    (with_shown (codes "svn:date") (option_map iso_text told.moment) (named_values told.props))
 
 -- the dead properties of a node or a revision by name and value, in byte order of the names
-unfoldable pub dead_values : PropSources → Subject → List (List ℕ × List ℕ)
-dead_values sources (YoungestNode place) = named_values place.node.props
-dead_values sources (RevisionNode place) = named_values place.node.props
-dead_values sources (WholeRevision rev) = revision_values (sources.facts_of rev)
+unfoldable pub dead_values : Told → Subject → List (List ℕ × List ℕ)
+dead_values told (YoungestNode place) = named_values place.node.props
+dead_values told (RevisionNode place) = named_values place.node.props
+dead_values told (WholeRevision rev) = revision_values told
 
 -- the value of the dead property that has this name in WebDAV, where there is one
-unfoldable pub dead_value : PropSources → Subject → PropName → Option Content
-dead_value sources subject name =
+unfoldable pub dead_value : Told → Subject → PropName → Option Content
+dead_value told subject name =
     option_map (λ found. value_content found.1)
-    (find (λ named. same_name (dead_name named.0) name) (dead_values sources subject))
+    (find (λ named. same_name (dead_name named.0) name) (dead_values told subject))

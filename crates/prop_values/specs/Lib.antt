@@ -1,7 +1,11 @@
 pub mod PropTags
 pub mod Contents
 pub mod LiveNames
+pub mod Places
 pub mod Subjects
 pub mod LiveValues
 pub mod DeadValues
+pub mod Values
+pub mod LookedUp
 pub mod Responses
+pub mod Records

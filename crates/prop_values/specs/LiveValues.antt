@@ -12,10 +12,11 @@ use Rattle.dav_names.specs.declared.resource.Resource.TheVariants.{Public, Rvr}
 use Rattle.dav_names.specs.Written.{target_text}
 use Rattle.dav_documents.specs.Written.{Written, empty_element, text_element, element, joined}
 use Rattle.path_locks.specs.declared.lock.Lock.{Lock}
-use Rattle.path_locks.specs.LockStates.{lock_at}
-use Rattle.log_access.specs.Records.{ShownRecord}
 use Rattle.prop_values.specs.Contents.{Content, no_content, inside_content, text_content, value_content, content_element}
-use Rattle.prop_values.specs.Subjects.{PropSources, NodePlace, Subject, YoungestNode, RevisionNode, WholeRevision, subject_place}
+use Rattle.prop_values.specs.Places.{NodePlace, Told}
+use Rattle.prop_values.specs.Subjects.{subject_place, told_revision}
+use Rattle.prop_values.specs.declared.subject.Subject.{Subject}
+use Rattle.prop_values.specs.declared.subject.Subject.TheVariants.{YoungestNode, RevisionNode, WholeRevision}
 use Rattle.prop_values.specs.declared.live.Live.{Live}
 use Rattle.prop_values.specs.declared.live.Live.TheVariants.{ResourceType, ContentLength, VersionName, CreationDate, LastModified, CreatorName, CheckedIn, LockDiscovery, RelativePath, RepositoryUuid, Md5Checksum, Sha1Checksum, PropertyCount}
 
@@ -29,16 +30,6 @@ text_of_kind Dir text = None
 -- the text of a file; a directory and a revision have none
 abbrev pub subject_text : Subject → Option (List ℕ)
 subject_text subject = option_and_then (λ place. text_of_kind place.node.kind place.node.text) (subject_place subject)
-
--- the revision that is told of: that of the last change at a node or below it, and a revision itself
-abbrev pub told_revision : Subject → ℕ
-told_revision (YoungestNode place) = place.node.created
-told_revision (RevisionNode place) = place.node.created
-told_revision (WholeRevision rev) = rev
-
--- what is shown of the record of that revision
-abbrev pub told_facts : PropSources → Subject → ShownRecord
-told_facts sources subject = sources.facts_of (told_revision subject)
 
 -- ---- their parts
 
@@ -79,15 +70,14 @@ lock_content root (Some lock) = inside_content (lock_element root lock)
 lock_content root None = no_content
 
 -- the lock on it, which is told of a node of the youngest revision alone
-abbrev pub discovered_lock : PropSources → Subject → Option Content
-discovered_lock sources (YoungestNode place) = Some (lock_content sources.root (lock_at place.path sources.locks))
-discovered_lock sources (RevisionNode place) = None
-discovered_lock sources (WholeRevision rev) = None
+abbrev pub discovered_lock : Told → Subject → Option Content
+discovered_lock told (YoungestNode place) = Some (lock_content told.root told.lock)
+discovered_lock told (RevisionNode place) = None
+discovered_lock told (WholeRevision rev) = None
 
--- the time of day and the day of the last change at a node, as HTTP writes it
-abbrev pub modified_content : PropSources → NodePlace → Option Content
-modified_content sources place =
-    option_map (λ moment. text_content (http_text moment)) (sources.facts_of place.node.created).moment
+-- when the last change at a node was, as HTTP writes it, where that is shown
+abbrev pub modified_content : Told → NodePlace → Option Content
+modified_content told place = option_map (λ moment. text_content (http_text moment)) told.moment
 
 -- ---- the table
 
@@ -96,19 +86,19 @@ modified_content sources place =
 -- that revision's author, where one is shown; of a node where it stands in its revision; of a node of the youngest
 -- revision the lock on it; of a node its path without the first slash; the repository's uuid; of a file the MD5 and the
 -- SHA-1 of its text in hexadecimal with small letters; of a node how many properties it has
-unfoldable pub live_value : PropSources → Subject → Live → Option Content
-live_value sources subject ResourceType = Some (type_content subject)
-live_value sources subject ContentLength = option_map (λ text. text_content (decimal (length text))) (subject_text subject)
-live_value sources subject VersionName = Some (text_content (decimal (told_revision subject)))
-live_value sources subject CreationDate =
-    option_map (λ moment. text_content (iso_text moment)) (told_facts sources subject).moment
-live_value sources subject LastModified = option_and_then (modified_content sources) (subject_place subject)
-live_value sources subject CreatorName = option_map value_content (told_facts sources subject).author
-live_value sources subject CheckedIn = option_map (checked_in_content sources.root) (subject_place subject)
-live_value sources subject LockDiscovery = discovered_lock sources subject
-live_value sources subject RelativePath = option_map (λ place. text_content (drop 1 place.path)) (subject_place subject)
-live_value sources subject RepositoryUuid = Some (text_content sources.uuid)
-live_value sources subject Md5Checksum = option_map (λ text. text_content (encode_lower (md5 text))) (subject_text subject)
-live_value sources subject Sha1Checksum = option_map (λ text. text_content (encode_lower (sha1 text))) (subject_text subject)
-live_value sources subject PropertyCount =
+unfoldable pub live_value : Told → Subject → Live → Option Content
+live_value told subject ResourceType = Some (type_content subject)
+live_value told subject ContentLength = option_map (λ text. text_content (decimal (length text))) (subject_text subject)
+live_value told subject VersionName = Some (text_content (decimal (told_revision subject)))
+live_value told subject CreationDate =
+    option_map (λ moment. text_content (iso_text moment)) told.moment
+live_value told subject LastModified = option_and_then (modified_content told) (subject_place subject)
+live_value told subject CreatorName = option_map value_content told.author
+live_value told subject CheckedIn = option_map (checked_in_content told.root) (subject_place subject)
+live_value told subject LockDiscovery = discovered_lock told subject
+live_value told subject RelativePath = option_map (λ place. text_content (drop 1 place.path)) (subject_place subject)
+live_value told subject RepositoryUuid = Some (text_content told.uuid)
+live_value told subject Md5Checksum = option_map (λ text. text_content (encode_lower (md5 text))) (subject_text subject)
+live_value told subject Sha1Checksum = option_map (λ text. text_content (encode_lower (sha1 text))) (subject_text subject)
+live_value told subject PropertyCount =
     option_map (λ place. text_content (decimal (length place.node.props))) (subject_place subject)

@@ -47,13 +47,18 @@ pub record PropTag : Type 0 where
 abbrev pub xml_space : List ℕ
 xml_space = codes "http://www.w3.org/XML/1998/namespace"
 
+-- the attribute that binds the prefix N to a namespace, if it is to be bound
+abbrev pub own_binding : Option (List ℕ) → List Attribute
+own_binding None = []
+own_binding (Some space) = binding (codes "N") space ∷ []
+
 -- the tag of a name whose namespace no prefix is bound to here: without a namespace the local name alone; in that of the
 -- prefix `xml`, behind this; else behind the prefix N, which the element itself binds to the namespace
 abbrev pub unbound_tag : PropName → PropTag
 unbound_tag name =
     if bytes_eq name.space [] then record { name = name.name; attributes = [] }
     else if bytes_eq name.space xml_space then record { name = codes "xml:" ++ name.name; attributes = [] }
-    else record { name = codes "N:" ++ name.name; attributes = binding (codes "N") name.space ∷ [] }
+    else record { name = codes "N:" ++ name.name; attributes = own_binding (Some name.space) }
 
 -- the tag of a name, by the prefix that is bound to its namespace: behind this prefix, if there is one, and else as above
 abbrev pub tag_with : PropName → Option (List ℕ × Namespace) → PropTag

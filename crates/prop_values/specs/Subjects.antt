@@ -1,17 +1,21 @@
--- What has properties, and what is known of it: nothing but what the user is shown.
+-- What has properties, and what is known of it: nothing but what the user is shown. A subject is a node that is asked as
+-- one of the youngest revision, a node that is asked as one of a revision that was named, or a revision by its number.
 use Rattle.std.specs.Prelude.{ℕ, List, [], ◌++◌, map, codes, Option, Some, None, if◌then◌else◌}
 use Rattle.std.specs.List.{filter_map}
 use Rattle.std.specs.Option.{option_map}
 use Rattle.rev_nodes.specs.declared.kind.Kind.{Kind}
 use Rattle.rev_nodes.specs.declared.kind.Kind.TheVariants.{File, Dir}
-use Rattle.rev_nodes.specs.declared.node.Node.{Node}
 use Rattle.rev_nodes.specs.Entries.{is_child}
 use Rattle.rev_nodes.specs.Trees.{Tree, TreeNode, at}
 use Rattle.dav_names.specs.declared.resource.Resource.{Resource}
 use Rattle.dav_names.specs.declared.resource.Resource.TheVariants.{Public, Me, Rvr, RevOnly, Txr, Txn}
 use Rattle.dav_names.specs.Written.{target_text}
 use Rattle.log_access.specs.Records.{ShownRecord}
-use Rattle.path_locks.specs.LockStates.{LockState}
+use Rattle.path_locks.specs.declared.lock.Lock.{Lock}
+use Rattle.path_locks.specs.LockStates.{LockState, lock_at}
+use Rattle.prop_values.specs.Places.{NodePlace, Told}
+use Rattle.prop_values.specs.declared.subject.Subject.{Subject}
+use Rattle.prop_values.specs.declared.subject.Subject.TheVariants.{YoungestNode, RevisionNode, WholeRevision}
 
 -- all that answers about properties are told from: where the repository stands, its uuid, the number of its youngest
 -- revision, and of each revision the nodes and the record as the user is shown them; and the locks of its paths
@@ -22,19 +26,6 @@ pub record PropSources : Type 0 where
   pub nodes_of : ℕ → Tree
   pub facts_of : ℕ → ShownRecord
   pub locks : LockState
-
--- a node, with the revision and the path at which it is asked
-pub record NodePlace : Type 0 where
-  pub rev : ℕ
-  pub path : List ℕ
-  pub node : Node
-
--- what has properties: a node that is asked as one of the youngest revision; a node that is asked as one of a revision
--- that was named; or the revision of this number
-pub data Subject : Type 0 where
-  YoungestNode : NodePlace → Subject
-  RevisionNode : NodePlace → Subject
-  WholeRevision : ℕ → Subject
 
 -- the node that has the properties, where that isn't a revision
 abbrev pub subject_place : Subject → Option NodePlace
@@ -99,3 +90,32 @@ unfoldable pub children_of : PropSources → Subject → List Subject
 children_of sources (YoungestNode place) = map YoungestNode (child_places sources place)
 children_of sources (RevisionNode place) = map RevisionNode (child_places sources place)
 children_of sources (WholeRevision rev) = []
+
+-- ---- what is told of it
+
+-- the revision that is told of: that of the last change at a node or below it, and a revision itself
+abbrev pub told_revision : Subject → ℕ
+told_revision (YoungestNode place) = place.node.created
+told_revision (RevisionNode place) = place.node.created
+told_revision (WholeRevision rev) = rev
+
+-- the lock that is told of: of a node of the youngest revision that on its path, where there is one
+abbrev pub told_lock : PropSources → Subject → Option Lock
+told_lock sources (YoungestNode place) = lock_at place.path sources.locks
+told_lock sources (RevisionNode place) = None
+told_lock sources (WholeRevision rev) = None
+
+-- what is told of a subject, where this record is that of the revision that is told of, as the user is shown it
+abbrev pub told_with : PropSources → Subject → ShownRecord → Told
+told_with sources subject shown = record {
+  root = sources.root;
+  uuid = sources.uuid;
+  lock = told_lock sources subject;
+  props = shown.props;
+  author = shown.author;
+  moment = shown.moment;
+}
+
+-- what is told of a subject
+unfoldable pub told_of : PropSources → Subject → Told
+told_of sources subject = told_with sources subject (sources.facts_of (told_revision subject))

@@ -3,5 +3,17 @@
 #![tactic(auto)]
 
 mod live;
+mod live_names;
+mod names;
+mod query;
+mod response;
+mod subject;
+mod tag;
+mod told;
+mod value;
 
 pub use live::Live;
+pub use query::Query;
+pub use response::write_response;
+pub use subject::{NodePlace, Subject};
+pub use told::Told;
