@@ -11,3 +11,5 @@ pub mod Clocks
 pub mod ClockStates
 pub mod Keepers
 pub mod KeeperStates
+pub mod DoorStates
+pub mod Doors

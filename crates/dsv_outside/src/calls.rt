@@ -50,4 +50,11 @@ impl Calls {
     {
         self.faults = self.faults.saturating_add(1);
     }
+
+    /// How many calls have failed.
+    pub(crate) fn faults(&self) -> u64
+        ensures { result ≡ self.now.faults }
+    {
+        self.faults
+    }
 }

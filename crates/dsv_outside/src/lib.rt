@@ -7,14 +7,19 @@
 //! told: a call fails only where it rises.
 #![tactic(auto)]
 
+mod accepted;
 mod calls;
 mod clock;
+mod door;
+mod door_book;
+mod door_record;
 mod file_got;
 mod file_table;
 mod files;
 mod got;
 mod keeper;
 mod mem_clock;
+mod mem_door;
 mod mem_files;
 mod mem_keeper;
 mod mem_sink;
@@ -23,17 +28,22 @@ mod put;
 mod serve_end;
 mod sink;
 mod source;
+mod sure_door;
 mod sure_files;
 mod sure_keeper;
 mod sure_sink;
 mod sure_source;
 
+pub use accepted::Accepted;
 pub use clock::Clock;
+pub use door::Door;
+pub use door_record::DoorRecord;
 pub use file_got::FileGot;
 pub use files::Files;
 pub use got::Got;
 pub use keeper::Keeper;
 pub use mem_clock::MemClock;
+pub use mem_door::MemDoor;
 pub use mem_files::MemFiles;
 pub use mem_keeper::MemKeeper;
 pub use mem_sink::MemSink;
@@ -42,6 +52,7 @@ pub use put::Put;
 pub use serve_end::ServeEnd;
 pub use sink::Sink;
 pub use source::Source;
+pub use sure_door::SureDoor;
 pub use sure_files::SureFiles;
 pub use sure_keeper::SureKeeper;
 pub use sure_sink::SureSink;

@@ -42,6 +42,15 @@ impl MemSink {
     {
         self.sink.taken()
     }
+
+    /// The sink without its calls, and how many of these have failed.
+    pub(crate) fn into_parts(self) -> (SureSink, u64)
+        ensures sink { result.0 ≡ self.taken }
+        ensures faults { result.1 ≡ self.calls.faults }
+    {
+        let MemSink { sink, calls } = self;
+        (sink, calls.faults())
+    }
 }
 
 impl Sink for MemSink {

@@ -37,6 +37,15 @@ impl MemSource {
             calls: Calls::new(failing),
         }
     }
+
+    /// The source without its calls, and how many of these have failed.
+    pub(crate) fn into_parts(self) -> (SureSource, u64)
+        ensures source { result.0 ≡ record { left = self.left; over = self.over } }
+        ensures faults { result.1 ≡ self.calls.faults }
+    {
+        let MemSource { source, calls } = self;
+        (source, calls.faults())
+    }
 }
 
 impl Source for MemSource {

@@ -1,4 +1,4 @@
-ghost use Rattle.std.specs.Prelude.{◌≡◌, ◌<◌, ◌≤◌, length, take, min, Some, false};
+ghost use Rattle.std.specs.Prelude.{◌≡◌, ◌<◌, ◌≤◌, length, take, drop, min, Some, false};
 ghost use Rattle.dsv_outside.specs.Causes.{HasCause};
 ghost use Rattle.dsv_outside.specs.Sources.{TakesFirst, TellsOver, is_failed_got, got_of};
 
@@ -38,6 +38,20 @@ impl SureSource {
             over: false,
         }
     }
+
+    /// The bytes that are left.
+    pub(crate) fn left(&self) -> &[u8]
+        ensures { result.now ≡ self.now.left }
+    {
+        bytes_from(self.bytes.get(), self.at)
+    }
+
+    /// Whether a call has answered [`Got::End`].
+    pub(crate) fn is_over(&self) -> bool
+        ensures { result ≡ self.now.over }
+    {
+        self.over
+    }
 }
 
 impl Source for SureSource {
@@ -74,4 +88,11 @@ fn copy_front(from: &[u8], into: &mut [u8]) -> usize
     let count = from.len().min(into.len());
     into[..count].copy_from_slice(&from[..count]);
     count
+}
+
+fn bytes_from(bytes: &[u8], at: usize) -> &[u8]
+    requires { at ≤ length bytes.now }
+    ensures { result.now ≡ drop at bytes.now }
+{
+    &bytes[at..]
 }
