@@ -1,4 +1,4 @@
-use crate::refusals::form_word;
+use crate::refusals::put_form;
 use dav_bodies::{Body, BodyFault, BodyKind, Wanted, read_body};
 use dsv_base::PropName;
 use row_files::{Answer, Given};
@@ -14,10 +14,7 @@ pub fn answer_body(table: BodyTable, given: &Given<'_>, out: &mut Answer) {
     match read_body(given.alloc, kind_of(table), given.bytes(0)) {
         Ok(body) => put_body(&body, out),
         Err(BodyFault::BadBody) => out.put(b"bad"),
-        Err(BodyFault::NotInProfile { form }) => {
-            out.put(b"form ");
-            out.put(form_word(form).as_bytes());
-        }
+        Err(BodyFault::NotInProfile { form }) => put_form(form, out),
         Err(BodyFault::NoMemory) => out.give_up(),
     }
 }

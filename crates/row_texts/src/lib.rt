@@ -8,6 +8,7 @@ mod documents;
 mod locks;
 mod outside;
 mod paths;
+mod reading;
 mod refusals;
 mod replies;
 mod streams;

@@ -1,6 +1,6 @@
 use dav_replies::{AllowKind, Form, Refusal};
 use dsv_base::{Path, cut_at};
-use row_files::{named, revision_in};
+use row_files::{Answer, named, revision_in};
 use std::alloc::Global;
 
 /// A refusal by its name, and by what it tells beside that: as it is written, and as bytes.
@@ -140,8 +140,14 @@ const FORMS: [(&str, Form); 20] = [
     ("later", Form::Later),
 ];
 
+/// Writes `form`, and the form by its name.
+pub fn put_form(form: Form, out: &mut Answer) {
+    out.put(b"form ");
+    out.put(form_word(form).as_bytes());
+}
+
 /// The word for a form.
-pub fn form_word(form: Form) -> &'static str {
+fn form_word(form: Form) -> &'static str {
     'forms: for (word, known) in &FORMS {
         if *known == form {
             return word;

@@ -4,6 +4,7 @@ use crate::documents::{DocumentTable, answer_document};
 use crate::locks::answer_locks;
 use crate::outside::{ObjectTable, answer_object};
 use crate::paths::{PathTable, answer_path};
+use crate::reading::answer_reading;
 use crate::replies::{ReplyTable, answer_reply};
 use crate::targets::{TargetTable, answer_target};
 use crate::texts::{TextTable, answer_text};
@@ -18,13 +19,14 @@ enum Table {
     Locks,
     Object(ObjectTable),
     Document(DocumentTable),
+    Reading,
     Body(BodyTable),
     Target(TargetTable),
     Reply(ReplyTable),
 }
 
 /// The tables by name.
-const TABLES: [(&str, Table); 32] = [
+const TABLES: [(&str, Table); 33] = [
     ("text in XML", Table::Text(TextTable::InXml)),
     ("text that XML can hold", Table::Text(TextTable::Plain)),
     ("line", Table::Text(TextTable::Line)),
@@ -53,6 +55,7 @@ const TABLES: [(&str, Table); 32] = [
     ("keeper", Table::Object(ObjectTable::Keeper)),
     ("document", Table::Document(DocumentTable::Document)),
     ("namespace", Table::Document(DocumentTable::Namespace)),
+    ("document read", Table::Reading),
     ("propfind body", Table::Body(BodyTable::Propfind)),
     ("target", Table::Target(TargetTable::Target)),
     ("written target", Table::Target(TargetTable::Written)),
@@ -71,6 +74,7 @@ pub fn answer(table: &str, given: &Given<'_>, out: &mut Answer) -> bool {
         Some(Table::Locks) => answer_locks(given, out),
         Some(Table::Object(table)) => answer_object(table, given, out),
         Some(Table::Document(table)) => answer_document(table, given, out),
+        Some(Table::Reading) => answer_reading(given, out),
         Some(Table::Body(table)) => answer_body(table, given, out),
         Some(Table::Target(table)) => answer_target(table, given, out),
         Some(Table::Reply(table)) => answer_reply(table, given, out),
