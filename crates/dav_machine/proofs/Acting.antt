@@ -1,10 +1,9 @@
 -- As yet nothing is ever done: a history has no entries, and no state is replayed into another.
-use Rattle.std.proofs.Common.{◌≡◌, ℕ, ◌+◌, ◌≤◌, false, List, [], ◌∷◌, length, refl, sym, ap, subst, inl, suc, arith}
-use Rattle.dsv_outside.specs.Causes.{last_count}
+use Rattle.std.proofs.Common.{◌≡◌, ℕ, false, List, [], ◌∷◌, length, refl, ap, subst, inl, suc, arith}
 use Rattle.dav_machine.specs.declared.answer.Answer.{Answer}
 use Rattle.dav_machine.specs.declared.call.Call.{Call}
 use Rattle.dav_machine.specs.declared.event.Event.{Event}
-use Rattle.dav_machine.specs.Histories.{HistoryEntry, replay}
+use Rattle.dav_machine.specs.Histories.{HistoryEntry}
 use Rattle.dav_machine.specs.Hubs.{IsHubOf, entries_by_events, events_of}
 use Rattle.dav_machine.specs.States.{State, youngest_of}
 use Rattle.dav_machine.specs.Turns.{Acted, RepliesOnly}

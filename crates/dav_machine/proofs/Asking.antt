@@ -1,5 +1,5 @@
 -- What is asked about properties, of what is there.
-use Rattle.std.proofs.Common.{◌≡◌, ℕ, Bool, List, Option, Result, length, refl, sym, ap, ◌∙◌, subst}
+use Rattle.std.proofs.Common.{◌≡◌, ℕ, Bool, List, Option, Result, length, refl, subst}
 use Rattle.dsv_base.specs.Gives.{Gives}
 use Rattle.dsv_base.specs.declared.reply.Reply.{Reply}
 use Rattle.dav_bodies.specs.declared.body.Wanted.{Wanted}

@@ -1,5 +1,5 @@
 -- What OPTIONS is answered, and a GET where nothing stands at a readable path and where a node does.
-use Rattle.std.proofs.Common.{◌≡◌, ℕ, ◌-◌, true, List, Option, None, Some, Result, Ok, Err, length, refl, sym, ap, ◌∙◌, subst}
+use Rattle.std.proofs.Common.{◌≡◌, ℕ, ◌-◌, true, List, Option, None, Some, Result, Ok, Err, length, sym, ap, ◌∙◌, subst}
 use Rattle.std.proofs.lemmas.List.{length-map}
 use Rattle.std.specs.Option.{option_map}
 use Rattle.dsv_base.specs.Gives.{Gives, ◌>>=◌}

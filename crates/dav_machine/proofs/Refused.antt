@@ -1,17 +1,14 @@
 -- Of what a reply is a function: what is refused early, of the name, the rules and the request; the rest of the view.
-use Rattle.std.proofs.Common.{◌≡◌, ℕ, Bool, Option, None, Result, Err, refl, ap}
+use Rattle.std.proofs.Common.{◌≡◌, ℕ, Bool, None, Result, Err, refl, ap}
 use Rattle.dsv_base.specs.Gives.{◌>>=◌}
-use Rattle.dsv_base.specs.declared.reply.Reply.{Reply}
 use Rattle.http_front.specs.declared.request.Request.{Request}
 use Rattle.dav_replies.specs.Refusals.{refusal_reply}
 use Rattle.dav_replies.specs.declared.refusal.Refusal.{Refusal}
 use Rattle.log_access.specs.Shown.{shown_of}
-use Rattle.dav_machine.specs.declared.effect.Effect.{Effect}
-use Rattle.dav_machine.specs.AllReplies.{unchanging, answer, answered, or_refusal, reply_to, read_reply}
+use Rattle.dav_machine.specs.AllReplies.{answer, answered, or_refusal, reply_to, read_reply}
 use Rattle.dav_machine.specs.Chains.{Permit, permitted, viewer}
-use Rattle.dav_machine.specs.ReadReplies.{read_answer}
 use Rattle.dav_machine.specs.States.{State}
-use Rattle.dav_machine.specs.Views.{View, view_of}
+use Rattle.dav_machine.specs.Views.{view_of}
 
 -- what is refused early is told
 pub decided : (state : State) (request : Request) (refusal : Refusal) (moment : ℕ) (kept : Bool)

@@ -1,5 +1,5 @@
 -- What holds of all replies.
-use Rattle.std.specs.Prelude.{ℕ, ◌≡◌, Bool, true, false, List, Option, None, Some, Err}
+use Rattle.std.specs.Prelude.{ℕ, ◌≡◌, Bool, true, false, List, Option, Some, Err}
 use Rattle.std.specs.Option.{option_and_then, option_map_or}
 use Rattle.http_front.specs.declared.request.Request.{Request}
 use Rattle.authz_check.specs.Access.{can_read}

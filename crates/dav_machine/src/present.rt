@@ -67,7 +67,13 @@ impl Present {
     pub fn sight<'a>(&'a self, user: Option<&'a [u8]>) -> Sight<'a>
         ensures { result ≡ sight_of self.now (option_copied user.entry) }
     {
-        Sight::of(&self.trees, &self.policy, &self.locks, user, self.root.get())
+        Sight::of(
+            &self.trees,
+            &self.policy,
+            &self.locks,
+            user,
+            self.root.get(),
+        )
     }
 
     /// Whether the user may read the path.
