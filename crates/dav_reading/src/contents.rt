@@ -26,7 +26,11 @@ fn one_more(before: Brackets) -> Brackets
 fn brackets_with(before: Brackets, b: u8) -> Brackets
     ensures { result ≡ brackets_with before b }
 {
-    if b == b']' { one_more(before) } else { Brackets::Zero }
+    if b == b']' {
+        one_more(before)
+    } else {
+        Brackets::Zero
+    }
 }
 
 fn are_several(before: Brackets) -> bool
@@ -127,7 +131,10 @@ pub fn slash(alloc: Global, progress: Progress, tag: Tag, b: u8) -> Result<Place
         let name = tag.name.copy()?;
         let inside = enter(alloc, progress, tag)?;
         return match leave(alloc, inside, name.get()) {
-            Ok(progress) => Ok(between(progress)),
+            Ok(progress) => Ok(Place {
+                mode: Mode::Content(Brackets::Zero),
+                progress,
+            }),
             Err(fault) => Err(fault),
         };
     }
