@@ -28,7 +28,7 @@ use Rattle.dav_reading.specs.declared.mode.Mode.TheVariants.{Among, Behind, Cont
 use Rattle.dav_reading.specs.LineEnds.{lines_joined}
 use Rattle.dav_reading.specs.Heads.{behind_mark, after_word, quoted, after_name_stated, value_stated, stated, names_next, after_version, after_encoding, after_standalone, after_declaration, begins_declaration, after_head}
 use Rattle.dav_reading.specs.Modes.{read_bytes}
-use Rattle.dav_reading.specs.Documents.{reader_at_start, answer_at_end, document_in, document, root_of, tree}
+use Rattle.dav_reading.specs.Documents.{reader_at_start, answer_at_end, document_in, document, element_or_form, tree}
 use Rattle.dav_reading.specs.WrittenTrees.{read_attribute, read_tag, elem_with, parts_written, elem_written}
 use Rattle.dav_reading.proofs.Steps.{placed_in, then_in, both, read_on, took, took_one, naming, keying, closing_name, value_read, brackets_behind, text_read, texted}
 use Rattle.dav_reading.proofs.Spelling.{attribute_spelled, inside_spelled, element_spelled}
@@ -217,4 +217,4 @@ document_read w nest e h is =
 
 pub written_read : (w : Written) (nest : ℕ) (e : Elem) → is_plain w ≡ true → elem_written nest w ≡ Some e → (document nest (body_text w) ≡ Ok (record { root = e; form = None })) × (tree nest (body_text w) ≡ Ok e)
 unfolding tree
-written_read w nest e h is = let d = document_read w nest e h is in (d, ap (λ r. r >>= root_of) d)
+written_read w nest e h is = let d = document_read w nest e h is in (d, ap (λ r. r >>= element_or_form) d)

@@ -73,12 +73,12 @@ root_without root None = Ok root
 root_without root (Some first) = Err (NotInProfile first.form)
 
 -- a document's element, or its first left-out form
-abbrev pub root_of : Document → Result Elem TreeFault
-root_of d = root_without d.root d.form
+abbrev pub element_or_form : Document → Result Elem TreeFault
+element_or_form d = root_without d.root d.form
 
 -- the element of a document, in which at most so many stand in each other; else that it isn't in the grammar, or the first form in it that is left out
 unfoldable pub tree : ℕ → List ℕ → Result Elem TreeFault
-tree nest bytes = document nest bytes >>= root_of
+tree nest bytes = document nest bytes >>= element_or_form
 
 -- want of memory, which is no answer on the document
 abbrev pub is_free_of_tree : TreeFault → Bool

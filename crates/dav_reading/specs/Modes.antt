@@ -19,7 +19,7 @@ use Rattle.dav_reading.specs.declared.mode.Place.{Place}
 use Rattle.dav_reading.specs.declared.mode.Reader.{Reader}
 use Rattle.dav_reading.specs.LineEnds.{blanked}
 use Rattle.dav_reading.specs.References.{referred}
-use Rattle.dav_reading.specs.Asides.{now_in, now_between, then_between, read_aside}
+use Rattle.dav_reading.specs.Asides.{now_in, then_between, read_aside}
 
 -- behind a tag's name or an attribute: the tag ends, an empty element's tag may end, or white space comes
 abbrev pub read_behind : Progress → Tag → ℕ → Option Place
@@ -40,14 +40,14 @@ abbrev pub with_raw : Tag → Raw → Tag
 with_raw tag raw = record { name = tag.name; attrs = tag.attrs ++ raw ∷ [] }
 
 -- a `]` more in a row; all from two on are alike
-abbrev pub one_more : Brackets → Brackets
-one_more Zero = One
-one_more One = Several
-one_more Several = Several
+abbrev pub one_bracket_more : Brackets → Brackets
+one_bracket_more Zero = One
+one_bracket_more One = Several
+one_bracket_more Several = Several
 
 -- how many `]` stand in a row up to and with this byte
 abbrev pub brackets_with : Brackets → ℕ → Brackets
-brackets_with before b = cond (b == 93) (one_more before) Zero
+brackets_with before b = cond (b == 93) (one_bracket_more before) Zero
 
 -- there are two or more of them
 abbrev pub are_several : Brackets → Bool

@@ -1,7 +1,7 @@
 ghost use Rattle.std.specs.Prelude.{◌≡◌};
 ghost use Rattle.dav_elements.specs.Takes.{Takes};
 ghost use Rattle.dav_reading.specs.declared.mode.Mode.TheVariants as modes;
-ghost use Rattle.dav_reading.specs.Modes.{one_more, brackets_with, are_several, read_said, read_closed, read_in};
+ghost use Rattle.dav_reading.specs.Modes.{one_bracket_more, brackets_with, are_several, read_said, read_closed, read_in};
 
 use crate::asides::between;
 use crate::mode::{Aside, Brackets, Mode, Place};
@@ -13,8 +13,8 @@ use dav_elements::{
 use dsv_base::List;
 use std::alloc::Global;
 
-fn one_more(before: Brackets) -> Brackets
-    ensures { result ≡ one_more before }
+fn one_bracket_more(before: Brackets) -> Brackets
+    ensures { result ≡ one_bracket_more before }
 {
     match before {
         Brackets::Zero => Brackets::One,
@@ -27,7 +27,7 @@ fn brackets_with(before: Brackets, b: u8) -> Brackets
     ensures { result ≡ brackets_with before b }
 {
     if b == b']' {
-        one_more(before)
+        one_bracket_more(before)
     } else {
         Brackets::Zero
     }

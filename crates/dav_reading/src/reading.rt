@@ -3,7 +3,7 @@ ghost use Rattle.dsv_base.specs.Gives.{Gives};
 ghost use Rattle.dav_elements.specs.Takes.{Takes};
 ghost use Rattle.dav_reading.specs.Heads.{behind_mark, after_head};
 ghost use Rattle.dav_reading.specs.Modes.{read_in, read_byte, read_bytes};
-ghost use Rattle.dav_reading.specs.Documents.{reader_at_start, ended_elem, whole_in, document_with, answer_at_end, document, root_of, tree, is_free_of_tree};
+ghost use Rattle.dav_reading.specs.Documents.{reader_at_start, ended_elem, whole_in, document_with, answer_at_end, document, element_or_form, tree, is_free_of_tree};
 
 use crate::asides::read_aside;
 use crate::contents::{closed, closing, content, less, slash, text_ref};
@@ -145,8 +145,8 @@ pub fn read_document(alloc: Global, bytes: &[u8], nest: u32) -> Result<Document,
     }
 }
 
-fn root_of(document: Document) -> Result<Elem, TreeFault>
-    ensures { result ≡ root_of document }
+fn element_or_form(document: Document) -> Result<Elem, TreeFault>
+    ensures { result ≡ element_or_form document }
 {
     let Document { root, form } = document;
     match form {
@@ -164,7 +164,7 @@ pub fn read_tree(alloc: Global, bytes: &[u8], nest: u32) -> Result<Elem, TreeFau
     ensures { Gives is_free_of_tree result (tree nest bytes.now) }
 {
     match read_document(alloc, bytes, nest) {
-        Ok(document) => root_of(document),
+        Ok(document) => element_or_form(document),
         Err(fault) => Err(fault),
     }
 }
