@@ -12,6 +12,7 @@ mod line_ends;
 mod mode;
 mod reading;
 mod references;
+mod run;
 mod starts;
 mod tree_fault;
 
