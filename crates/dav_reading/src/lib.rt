@@ -13,6 +13,7 @@ mod mode;
 mod reading;
 mod references;
 mod run;
+mod runs;
 mod starts;
 mod tree_fault;
 
