@@ -6,7 +6,8 @@ use Rattle.std.proofs.lemmas.Bool.Decides.{nat_tests}
 use Rattle.std.specs.Prelude.{option_and_then, option_map, if◌then◌else◌}
 use Rattle.dsv_base.specs.Lines.{cut_at}
 use Rattle.dav_documents.specs.Plain.{is_written_name_byte}
-use Rattle.std.specs.Prelude.{Result}
+use Rattle.std.specs.Prelude.{Result, Err}
+use Rattle.dav_elements.specs.declared.unread.Unread.TheVariants.{Bad, NoMemory}
 use Rattle.dav_elements.specs.declared.unread.Unread.{Unread}
 use Rattle.dav_elements.specs.declared.tag.Tag.{Tag}
 use Rattle.dav_elements.specs.declared.frame.Frame.{Frame}
@@ -169,3 +170,8 @@ value_refers progress tag key quote begun form n = refers (in_value progress tag
     ends : (value : List ℕ) (o : Option (List ℕ)) → option_map (λ place. record { place = place; begun = begun; form = first_form form None }) (option_and_then (λ bytes. now_in (Valued tag key quote (value ++ bytes)) progress) o) ≡ option_map (λ bytes. in_value progress tag key quote begun form (value ++ bytes)) o
     ends value None = refl
     ends value (Some bytes) = rw (kept form) refl
+
+-- a fault stays one
+pub err_same : (X Y : Type 0) (left : X → Option Reader) (other : Y → Option Reader) (fault : Unread) (a b : Option Reader) → a ≡ b → GoesBy left (Err fault) a → GoesBy other (Err fault) b
+err_same X Y left other Bad a b e h = sym e ∙ h
+err_same X Y left other NoMemory a b e h = tt

@@ -1,8 +1,9 @@
-ghost use Rattle.std.specs.Prelude.{◌≡◌, Some, option_and_then};
+ghost use Rattle.std.specs.Prelude.{◌≡◌, ◌≤◌, ◌∷◌, Some, IfOk, length, option_and_then};
 ghost use Rattle.dsv_base.specs.Gives.{Gives};
 ghost use Rattle.dav_elements.specs.Takes.{Takes};
 ghost use Rattle.dav_reading.specs.Heads.{behind_mark, after_head};
 ghost use Rattle.dav_reading.specs.Modes.{read_in, read_byte, read_bytes};
+ghost use Rattle.dav_reading.specs.Runs.{GoesBy};
 ghost use Rattle.dav_reading.specs.Documents.{reader_at_start, ended_elem, whole_in, document_with, answer_at_end, document, element_or_form, tree, is_free_of_tree};
 
 use crate::asides::read_aside;
@@ -13,6 +14,7 @@ use crate::forms::{begun_with, form_with, is_content};
 use crate::heads::{after_head, behind_mark};
 use crate::line_ends::lines_joined;
 use crate::mode::{Brackets, Mode, Place, Reader};
+use crate::runs::run_on;
 use crate::starts::{among, equal, keyed, keying, naming, read_behind, value_ref, valued};
 use crate::tree_fault::TreeFault;
 use dav_elements::{Elem, Progress, Unread};
@@ -58,6 +60,22 @@ fn read_byte(alloc: Global, reader: Reader, b: u8) -> Result<Reader, Unread>
     Ok(Reader { place, begun, form })
 }
 
+/// Reads a byte, and the run behind it.
+fn step<'a>(
+    alloc: Global,
+    reader: Reader,
+    b: u8,
+    behind: &'a [u8],
+) -> Result<(Reader, &'a [u8]), Unread>
+    ensures goes { GoesBy (λ x. read_bytes x.0 x.1.now) result (read_bytes reader (b ∷ behind.now)) }
+    ensures shorter { IfOk result (λ x. length x.1.now ≤ length behind.now) }
+{
+    match read_byte(alloc, reader, b) {
+        Err(fault) => Err(fault),
+        Ok(reader) => run_on(alloc, reader, behind),
+    }
+}
+
 fn read_bytes(alloc: Global, nest: u32, text: &[u8]) -> Result<Reader, Unread>
     ensures { Takes result (read_bytes (reader_at_start nest) text.now) }
 {
@@ -69,8 +87,11 @@ fn read_bytes(alloc: Global, nest: u32, text: &[u8]) -> Result<Reader, Unread>
         begun: 0,
         form: None,
     };
-    'bytes: for b in text {
-        reader = read_byte(alloc, reader, *b)?;
+    let mut rest = text;
+    'steps: while let [b, behind @ ..] = rest {
+        let (next, left) = step(alloc, reader, *b, behind)?;
+        reader = next;
+        rest = left;
     }
     Ok(reader)
 }
