@@ -9,7 +9,7 @@ use Rattle.dav_reading.proofs.runs.pieces_read.Goals as goal
 pub references-init : goal.references-init
 references-init c = record {
   goes = λ at on refers. run_is c.args.run at on c.args.read.items c.args.text.now c.in_ok-first.first.items c.in_ok-first.behind.now c.in_ok-first.ensures.left;
-  shorter = c.in_ok-first.ensures.shorter
+  shorter = c.in_ok-first.ensures.shorter;
 }
 
 pub returns-in_err-more-in-Some-clause-goes : goal.returns-in_err-more-in-Some-clause-goes
@@ -20,5 +20,5 @@ returns-in_err-more-in-Some-clause-goes c = λ at on refers.
 pub references-preserved : goal.references-preserved
 references-preserved c = record {
   goes = λ at on refers. c.in_ok-more-in-Some.ensures.goes at on ∙ sym (refers c.references.read.items c.references.rest.now c.in-Some.word.now c.in-Some.behind.now c.in-Some.ensures.cut) ∙ c.references.invariant.goes at on refers;
-  shorter = omega (arith, c.in_ok-more-in-Some.ensures.shorter, c.in-Some.ensures.shorter, c.references.invariant.shorter)
+  shorter = omega (arith, c.in_ok-more-in-Some.ensures.shorter, c.in-Some.ensures.shorter, c.references.invariant.shorter);
 }
