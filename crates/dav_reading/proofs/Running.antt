@@ -5,7 +5,6 @@ use Rattle.std.proofs.lemmas.Option.{same_Some}
 use Rattle.std.proofs.lemmas.Bool.Decides.{nat_tests}
 use Rattle.std.specs.Prelude.{option_and_then, option_map, if◌then◌else◌}
 use Rattle.dsv_base.specs.Lines.{cut_at}
-use Rattle.dav_documents.specs.Plain.{is_written_name_byte}
 use Rattle.std.specs.Prelude.{Result, Err}
 use Rattle.dav_elements.specs.declared.unread.Unread.TheVariants.{Bad, NoMemory}
 use Rattle.dav_elements.specs.declared.unread.Unread.{Unread}
@@ -16,7 +15,6 @@ use Rattle.dav_elements.specs.declared.progress.Progress.TheVariants.{Within}
 use Rattle.dav_elements.specs.Growing.{refer}
 use Rattle.dav_reading.specs.declared.form_place.FormPlace.{FormPlace}
 use Rattle.dav_reading.specs.declared.mode.Brackets.TheVariants.{Zero}
-use Rattle.dav_reading.specs.declared.mode.Mode.{Mode}
 use Rattle.dav_reading.specs.declared.mode.Mode.TheVariants.{Closing, Content, Keying, Naming, TextRef, Valued, ValueRef}
 use Rattle.dav_reading.specs.declared.mode.Reader.{Reader}
 use Rattle.dav_reading.specs.declared.run.Run.{Run}

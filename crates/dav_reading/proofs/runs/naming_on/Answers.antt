@@ -1,4 +1,4 @@
-use Rattle.std.proofs.Common.{◌≡◌, ◌∙◌, ap, ℕ, List}
+use Rattle.std.proofs.Common.{◌∙◌, ap, ℕ, List}
 use Rattle.dav_reading.specs.declared.mode.Reader.{Reader}
 use Rattle.dav_reading.specs.declared.mode.Mode.TheVariants.{Naming}
 use Rattle.dav_reading.specs.declared.run.Run.TheVariants.{Name}

@@ -1,7 +1,6 @@
-use Rattle.std.proofs.Common.{◌≡◌, ◌∙◌, sym, arith, ℕ, List, Vec, Global, Bor}
+use Rattle.std.proofs.Common.{◌∙◌, sym, arith, ℕ, List, Vec, Global, Bor}
 use Rattle.std.specs.Prelude.{Err}
 use Rattle.std.proofs.lemmas.Result.{err_from_is_err_and}
-use Rattle.dav_reading.specs.Runs.{GoesBy}
 use Rattle.dav_reading.specs.Modes.{read_bytes}
 use Rattle.dav_reading.proofs.Running.{run_is, goes_same}
 use Rattle.dav_reading.proofs.runs.pieces_read.Goals as goal

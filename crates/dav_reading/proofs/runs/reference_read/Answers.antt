@@ -1,4 +1,4 @@
-use Rattle.std.proofs.Common.{◌≡◌, ◌∙◌, ◌++◌, ap}
+use Rattle.std.proofs.Common.{◌∙◌, ◌++◌, ap}
 use Rattle.dav_reading.proofs.Running.{referred_run}
 use Rattle.dav_reading.proofs.runs.reference_read.Goals as goal
 

@@ -1,4 +1,4 @@
-use Rattle.std.proofs.Common.{◌≡◌, ◌∙◌, ap, ℕ, List, Vec, Global, Bor}
+use Rattle.std.proofs.Common.{◌∙◌, ap, ℕ, List, Vec, Global, Bor}
 use Rattle.dav_reading.specs.declared.mode.Reader.{Reader}
 use Rattle.dav_reading.specs.Modes.{read_bytes}
 use Rattle.dav_reading.specs.Runs.{in_value}
