@@ -1,4 +1,5 @@
 pub mod Faults
 pub mod Elements
+pub mod Sayings
 pub mod Propfinds
 pub mod Bodies

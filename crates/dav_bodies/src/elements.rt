@@ -1,5 +1,5 @@
-ghost use Rattle.std.specs.Prelude.{◌≡◌, ◌∷◌, ◌++◌, [], IfOk, length, map};
-ghost use Rattle.dav_bodies.specs.Elements.{elements_in, is_dav, name_of_elem};
+ghost use Rattle.std.specs.Prelude.{◌≡◌, ◌+◌, ◌∷◌, ◌++◌, [], IfOk, length, map};
+ghost use Rattle.dav_bodies.specs.Elements.{elements_in, is_dav, name_of_elem, size_of, size_of_all};
 
 use dav_elements::{Elem, Part, pushed};
 use dsv_base::{List, NoMemory, PropName};
@@ -23,6 +23,31 @@ pub fn count_elements(parts: &[Part]) -> usize
         }
     }
     count
+}
+
+/// The sum. There is no memory for as many elements as no number tells.
+pub fn sum(count: u64, more: u64) -> Result<u64, NoMemory>
+    ensures { IfOk result (λ all. all ≡ count + more) }
+{
+    match count.checked_add(more) {
+        Some(all) => Ok(all),
+        None => Err(NoMemory),
+    }
+}
+
+/// How many elements the element is, with all that stand in it. It recurses as deep as they stand in each other.
+/// Its one error is want of memory.
+pub fn size_of(elem: &Elem) -> Result<u64, NoMemory>
+    ensures { IfOk result (λ size. size ≡ size_of elem.now) }
+{
+    let mut size = 1u64;
+    let parts = elem.parts.as_slice();
+    'parts: for part in parts {
+        if let Part::Child(inner) = part {
+            size = sum(size, size_of(inner)?)?;
+        }
+    }
+    Ok(size)
 }
 
 fn copy_name(name: &PropName) -> Result<PropName, NoMemory>

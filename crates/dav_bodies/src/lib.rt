@@ -7,6 +7,7 @@ mod body_kind;
 mod elements;
 mod propfinds;
 mod reading;
+mod said;
 
 pub use body::{Body, Wanted};
 pub use body_fault::BodyFault;

@@ -3,3 +3,4 @@ mod Spelling
 mod Clean
 mod TreesRead
 mod Slashes
+mod Running

@@ -8,18 +8,18 @@ use Rattle.dav_elements.specs.declared.progress.Progress.{Progress}
 use Rattle.dav_elements.specs.Takes.{Takes}
 use Rattle.dav_elements.specs.Growing.{enter, leave}
 use Rattle.dav_reading.specs.declared.mode.Place.{Place}
-use Rattle.dav_reading.specs.declared.mode.Mode.TheVariants.{Content, Slash}
-use Rattle.dav_reading.specs.Asides.{now_in, now_between}
+use Rattle.dav_reading.specs.declared.mode.Mode.TheVariants.{Slash}
+use Rattle.dav_reading.specs.Asides.{now_between, then_between}
 use Rattle.dav_reading.specs.Modes.{read_in}
 
 slashed : (progress inside : Progress) (tag : Tag) (name : List ℕ) (b : ℕ) (out : Option Progress) → b ≡ 62 → enter progress tag ≡ Some inside → name ≡ tag.name → leave inside name ≡ out
-    → read_in progress (Slash tag) b ≡ now_between out
+    → read_in progress (Slash tag) b ≡ then_between out
 slashed progress inside tag name b out e i n l =
     let P : List ℕ → Type 0 = λ x. leave inside x ≡ out in
-    rw e (rw i (ap now_between (subst P n l)))
+    rw e (rw i (ap then_between (subst P n l)))
 
 pub slash_ok : (progress inside out : Progress) (tag : Tag) (name : List ℕ) (b : ℕ) → b ≡ 62 → enter progress tag ≡ Some inside → name ≡ tag.name → leave inside name ≡ Some out
-    → read_in progress (Slash tag) b ≡ now_in Content out
+    → read_in progress (Slash tag) b ≡ now_between out
 slash_ok progress inside out tag name b = slashed progress inside tag name b (Some out)
 
 pub slash_err : (progress inside : Progress) (tag : Tag) (name : List ℕ) (b : ℕ) (fault : Unread) → b ≡ 62 → enter progress tag ≡ Some inside → name ≡ tag.name → Takes {X = Progress} (Err fault) (leave inside name)

@@ -1,5 +1,5 @@
 -- Reading a document byte by byte.
-use Rattle.std.specs.Prelude.{ℕ, cond, ◌||◌, List, [], ◌∷◌, ◌++◌, Option, Some, None, option_and_then, option_map, ◌&&◌, ◌==◌}
+use Rattle.std.specs.Prelude.{ℕ, Bool, true, false, ◌+◌, cond, ◌||◌, List, [], ◌∷◌, ◌++◌, Option, Some, None, option_and_then, option_map, ◌&&◌, ◌==◌}
 use Rattle.dsv_base.specs.declared.form.Form.{Form}
 use Rattle.dsv_base.specs.declared.form.Form.TheVariants as forms
 use Rattle.dav_documents.specs.Plain.{begins_name, is_written_name_byte}
@@ -10,17 +10,20 @@ use Rattle.dav_elements.specs.Names.{is_white}
 use Rattle.dav_elements.specs.Growing.{enter, leave, say, refer}
 use Rattle.dav_reading.specs.declared.mode.Aside.{Aside}
 use Rattle.dav_reading.specs.declared.mode.Aside.TheVariants.{Marked, Comment, CommentDash, CommentEnd, Data, DataBracket, DataEnd, Typing, Quoted, Processing, ProcessingEnd}
+use Rattle.dav_reading.specs.declared.form_place.FormPlace.{FormPlace}
+use Rattle.dav_reading.specs.declared.mode.Brackets.{Brackets}
+use Rattle.dav_reading.specs.declared.mode.Brackets.TheVariants.{Zero, One, Several}
 use Rattle.dav_reading.specs.declared.mode.Mode.{Mode}
 use Rattle.dav_reading.specs.declared.mode.Mode.TheVariants.{Content, TextRef, Less, Naming, Behind, Among, Keying, Keyed, Equal, Valued, ValueRef, Slash, Closing, Closed, Beside}
 use Rattle.dav_reading.specs.declared.mode.Place.{Place}
 use Rattle.dav_reading.specs.declared.mode.Reader.{Reader}
 use Rattle.dav_reading.specs.LineEnds.{blanked}
 use Rattle.dav_reading.specs.References.{referred}
-use Rattle.dav_reading.specs.Asides.{now_in, now_between, read_aside}
+use Rattle.dav_reading.specs.Asides.{now_in, then_between, read_aside}
 
 -- behind a tag's name or an attribute: the tag ends, an empty element's tag may end, or white space comes
 abbrev pub read_behind : Progress → Tag → ℕ → Option Place
-read_behind progress tag b = cond (b == 62) (now_between (enter progress tag))
+read_behind progress tag b = cond (b == 62) (then_between (enter progress tag))
     (cond (b == 47) (now_in (Slash tag) progress)
     (cond (is_white b) (now_in (Among tag) progress) None))
 
@@ -30,16 +33,36 @@ read_keyed progress tag key b = cond (b == 61) (now_in (Equal tag key) progress)
 
 -- behind an end tag's name, its `>` or white space
 abbrev pub read_closed : Progress → List ℕ → ℕ → Option Place
-read_closed progress name b = cond (b == 62) (now_between (leave progress name)) (cond (is_white b) (now_in (Closed name) progress) None)
+read_closed progress name b = cond (b == 62) (then_between (leave progress name)) (cond (is_white b) (now_in (Closed name) progress) None)
 
 -- a tag with one attribute more
 abbrev pub with_raw : Tag → Raw → Tag
 with_raw tag raw = record { name = tag.name; attrs = tag.attrs ++ raw ∷ [] }
 
+-- a `]` more in a row; all from two on are alike
+abbrev pub one_bracket_more : Brackets → Brackets
+one_bracket_more Zero = One
+one_bracket_more One = Several
+one_bracket_more Several = Several
+
+-- how many `]` stand in a row up to and with this byte
+abbrev pub brackets_with : Brackets → ℕ → Brackets
+brackets_with before b = cond (b == 93) (one_bracket_more before) Zero
+
+-- there are two or more of them
+abbrev pub are_several : Brackets → Bool
+are_several Zero = false
+are_several One = false
+are_several Several = true
+
+-- a byte of text between tags, where so many `]` stand just before; it isn't the end of `]]>`
+abbrev pub read_said : Progress → Brackets → ℕ → Option Place
+read_said progress before b = cond (b == 62 && are_several before) None (option_and_then (now_in (Content (brackets_with before b))) (say progress b))
+
 -- one byte, by where the reader stands
 abbrev pub read_in : Progress → Mode → ℕ → Option Place
-read_in progress Content b = cond (b == 60) (now_in Less progress) (cond (b == 38) (now_in (TextRef []) progress) (now_between (say progress b)))
-read_in progress (TextRef word) b = cond (b == 59) (option_and_then (λ bytes. now_between (refer progress bytes)) (referred word)) (now_in (TextRef (word ++ b ∷ [])) progress)
+read_in progress (Content before) b = cond (b == 60) (now_in Less progress) (cond (b == 38) (now_in (TextRef []) progress) (read_said progress before b))
+read_in progress (TextRef word) b = cond (b == 59) (option_and_then (λ bytes. then_between (refer progress bytes)) (referred word)) (now_in (TextRef (word ++ b ∷ [])) progress)
 read_in progress Less b = cond (begins_name b) (now_in (Naming (b ∷ [])) progress)
     (cond (b == 47) (now_in (Closing []) progress)
     (cond (b == 33) (now_in (Beside (Marked [])) progress)
@@ -55,7 +78,7 @@ read_in progress (Valued tag key quote value) b = cond (b == quote) (now_in (Beh
     (cond (b == 38) (now_in (ValueRef tag key quote value []) progress) (now_in (Valued tag key quote (value ++ blanked b ∷ [])) progress)))
 read_in progress (ValueRef tag key quote value word) b = cond (b == 59) (option_and_then (λ bytes. now_in (Valued tag key quote (value ++ bytes)) progress) (referred word))
     (now_in (ValueRef tag key quote value (word ++ b ∷ [])) progress)
-read_in progress (Slash tag) b = cond (b == 62) (option_and_then (λ inside. now_between (leave inside tag.name)) (enter progress tag)) None
+read_in progress (Slash tag) b = cond (b == 62) (option_and_then (λ inside. then_between (leave inside tag.name)) (enter progress tag)) None
 read_in progress (Closing name) b = cond (is_written_name_byte b) (now_in (Closing (name ++ b ∷ [])) progress) (read_closed progress name b)
 read_in progress (Closed name) b = read_closed progress name b
 read_in progress (Beside aside) b = read_aside progress aside b
@@ -76,7 +99,7 @@ form_of_aside ProcessingEnd b = cond (b == 62) (Some forms.Processing) None
 
 -- the left-out form that ends with this byte, if one does
 abbrev pub form_in : Mode → ℕ → Option Form
-form_in Content b = None
+form_in (Content before) b = None
 form_in (TextRef word) b = None
 form_in Less b = None
 form_in (Naming name) b = None
@@ -92,18 +115,44 @@ form_in (Closing name) b = None
 form_in (Closed name) b = None
 form_in (Beside aside) b = form_of_aside aside b
 
--- the first of two forms
-abbrev pub first_form : Option Form → Option Form → Option Form
-first_form None form = form
-first_form (Some first) form = Some first
+-- how many elements began up to and with this byte, where so many began before: one more where a start tag's name begins
+abbrev pub begun_with : ℕ → Mode → ℕ → ℕ
+begun_with begun (Content before) b = begun
+begun_with begun (TextRef word) b = begun
+begun_with begun Less b = cond (begins_name b) (begun + 1) begun
+begun_with begun (Naming name) b = begun
+begun_with begun (Behind tag) b = begun
+begun_with begun (Among tag) b = begun
+begun_with begun (Keying tag key) b = begun
+begun_with begun (Keyed tag key) b = begun
+begun_with begun (Equal tag key) b = begun
+begun_with begun (Valued tag key quote value) b = begun
+begun_with begun (ValueRef tag key quote value word) b = begun
+begun_with begun (Slash tag) b = begun
+begun_with begun (Closing name) b = begun
+begun_with begun (Closed name) b = begun
+begun_with begun (Beside aside) b = begun
 
--- a reader that knows the first form so far
-abbrev pub with_form : Option Form → Option Place → Option Reader
-with_form form place = option_map (λ p. record { place = p; form = form }) place
+-- the form stands where so many elements have begun
+abbrev pub placed_at : ℕ → Form → FormPlace
+placed_at begun form = record { form = form; begun = begun }
+
+-- the first left-out form up to here: the one that stood before, if one did, else the one that ends here
+abbrev pub first_form : Option FormPlace → Option FormPlace → Option FormPlace
+first_form None here = here
+first_form (Some first) here = Some first
+
+-- the first left-out form up to and with this byte; no element begins in a form, so that as many began before it as before its last byte
+abbrev pub form_with : Reader → ℕ → Option FormPlace
+form_with reader b = first_form reader.form (option_map (placed_at reader.begun) (form_in reader.place.mode b))
+
+-- the reader that stands there behind this byte
+abbrev pub reader_with : Reader → ℕ → Place → Reader
+reader_with reader b place = record { place = place; begun = begun_with reader.begun reader.place.mode b; form = form_with reader b }
 
 -- one byte more
 abbrev pub read_byte : Reader → ℕ → Option Reader
-read_byte reader b = with_form (first_form reader.form (form_in reader.place.mode b)) (read_in reader.place.progress reader.place.mode b)
+read_byte reader b = option_map (reader_with reader b) (read_in reader.place.progress reader.place.mode b)
 
 -- a text, byte by byte
 abbrev pub read_bytes : Reader → List ℕ → Option Reader

@@ -10,7 +10,7 @@ use Rattle.dav_elements.specs.declared.frame.Opened.{Opened}
 use Rattle.dav_elements.specs.Opening.{outermost, opened_by}
 use Rattle.dav_elements.specs.Growing.{text_part}
 use Rattle.dav_reading.specs.LineEnds.{blanked}
-use Rattle.dav_reading.specs.Documents.{document}
+use Rattle.dav_reading.specs.Documents.{document, tree}
 
 -- an attribute as it is read: tabs and line feeds are blanks then
 abbrev pub read_attribute : Attribute → Raw
@@ -35,6 +35,6 @@ elem_written nest Nothing = None
 elem_written nest (Element name attributes text inside Nothing) = option_and_then (λ o. option_map (λ parts. elem_with o text parts) (parts_written o.scope inside)) (opened_by (outermost nest) (read_tag name attributes))
 elem_written nest (Element name attributes text inside (Element n a t i r)) = None
 
--- a body that is written of a tree, whose names are names and whose texts have characters of XML alone, is read as the tree for which it stands
+-- a body that is written of a tree, whose names are names and whose texts have characters of XML alone, is read as the tree for which it stands: as a document without left-out forms, and as an element
 abbrev pub WrittenIsRead : Type 0
-WrittenIsRead = (w : Written) (nest : ℕ) (e : Elem) → is_plain w ≡ true → elem_written nest w ≡ Some e → document nest (body_text w) ≡ Ok e
+WrittenIsRead = (w : Written) (nest : ℕ) (e : Elem) → is_plain w ≡ true → elem_written nest w ≡ Some e → (document nest (body_text w) ≡ Ok (record { root = e; form = None })) × (tree nest (body_text w) ≡ Ok e)

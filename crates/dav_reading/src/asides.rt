@@ -1,10 +1,10 @@
 ghost use Rattle.std.specs.Prelude.{◌≡◌, Some};
 ghost use Rattle.dav_elements.specs.Takes.{Takes};
 ghost use Rattle.dav_reading.specs.declared.mode.Aside.TheVariants as aside_modes;
-ghost use Rattle.dav_reading.specs.declared.mode.Mode.TheVariants.{Beside, Content};
-ghost use Rattle.dav_reading.specs.Asides.{may_mark, read_mark, read_type, read_aside};
+ghost use Rattle.dav_reading.specs.declared.mode.Mode.TheVariants.{Beside};
+ghost use Rattle.dav_reading.specs.Asides.{now_between, may_mark, read_mark, read_type, read_aside};
 
-use crate::mode::{Aside, Mode, Place};
+use crate::mode::{Aside, Brackets, Mode, Place};
 use dav_elements::{Progress, Unread, declare, pushed, refer, say};
 use dsv_base::List;
 
@@ -17,11 +17,12 @@ fn beside(aside: Aside, progress: Progress) -> Place
     }
 }
 
-fn between(progress: Progress) -> Place
-    ensures { result ≡ record { mode = Content; progress = progress } }
+/// The place between tags, with no `]` just before.
+pub fn between(progress: Progress) -> Place
+    ensures { now_between progress ≡ Some result }
 {
     Place {
-        mode: Mode::Content,
+        mode: Mode::Content(Brackets::Zero),
         progress,
     }
 }

@@ -1,8 +1,10 @@
+ghost use Rattle.std.specs.Prelude.{◌≡◌};
 ghost use Rattle.dav_elements.specs.Takes.{Takes};
 ghost use Rattle.dav_reading.specs.declared.mode.Mode.TheVariants as modes;
-ghost use Rattle.dav_reading.specs.Modes.{read_closed, read_in};
+ghost use Rattle.dav_reading.specs.Modes.{one_bracket_more, brackets_with, are_several, read_said, read_closed, read_in};
 
-use crate::mode::{Aside, Mode, Place};
+use crate::asides::between;
+use crate::mode::{Aside, Brackets, Mode, Place};
 use crate::references::referred;
 use crate::starts::is_name_byte;
 use dav_elements::{
@@ -11,9 +13,52 @@ use dav_elements::{
 use dsv_base::List;
 use std::alloc::Global;
 
+fn one_bracket_more(before: Brackets) -> Brackets
+    ensures { result ≡ one_bracket_more before }
+{
+    match before {
+        Brackets::Zero => Brackets::One,
+        Brackets::One => Brackets::Several,
+        Brackets::Several => Brackets::Several,
+    }
+}
+
+fn brackets_with(before: Brackets, b: u8) -> Brackets
+    ensures { result ≡ brackets_with before b }
+{
+    if b == b']' {
+        one_bracket_more(before)
+    } else {
+        Brackets::Zero
+    }
+}
+
+fn are_several(before: Brackets) -> bool
+    ensures { result ≡ are_several before }
+{
+    match before {
+        Brackets::Zero => false,
+        Brackets::One => false,
+        Brackets::Several => true,
+    }
+}
+
+fn read_said(progress: Progress, before: Brackets, b: u8) -> Result<Place, Unread>
+    ensures { Takes result (read_said progress before b) }
+{
+    if b == b'>' && are_several(before) {
+        return Err(Unread::Bad);
+    }
+    let progress = say(progress, b)?;
+    Ok(Place {
+        mode: Mode::Content(brackets_with(before, b)),
+        progress,
+    })
+}
+
 /// Reads a byte between tags.
-pub fn content(alloc: Global, progress: Progress, b: u8) -> Result<Place, Unread>
-    ensures { Takes result (read_in progress modes.Content b) }
+pub fn content(alloc: Global, progress: Progress, before: Brackets, b: u8) -> Result<Place, Unread>
+    ensures { Takes result (read_in progress (modes.Content before) b) }
 {
     if b == b'<' {
         return Ok(Place {
@@ -27,11 +72,7 @@ pub fn content(alloc: Global, progress: Progress, b: u8) -> Result<Place, Unread
             progress,
         });
     }
-    let progress = say(progress, b)?;
-    Ok(Place {
-        mode: Mode::Content,
-        progress,
-    })
+    read_said(progress, before, b)
 }
 
 /// Reads a byte behind a `&` between tags.
@@ -41,10 +82,7 @@ pub fn text_ref(alloc: Global, progress: Progress, word: List<u8>, b: u8) -> Res
     if b == b';' {
         let bytes = referred(alloc, word.get())?;
         let progress = refer(progress, bytes.get())?;
-        return Ok(Place {
-            mode: Mode::Content,
-            progress,
-        });
+        return Ok(between(progress));
     }
     let word = pushed(word, b)?;
     Ok(Place {
@@ -94,7 +132,7 @@ pub fn slash(alloc: Global, progress: Progress, tag: Tag, b: u8) -> Result<Place
         let inside = enter(alloc, progress, tag)?;
         return match leave(alloc, inside, name.get()) {
             Ok(progress) => Ok(Place {
-                mode: Mode::Content,
+                mode: Mode::Content(Brackets::Zero),
                 progress,
             }),
             Err(fault) => Err(fault),
@@ -123,10 +161,7 @@ pub fn closed(alloc: Global, progress: Progress, name: List<u8>, b: u8) -> Resul
 {
     if b == b'>' {
         let progress = leave(alloc, progress, name.get())?;
-        return Ok(Place {
-            mode: Mode::Content,
-            progress,
-        });
+        return Ok(between(progress));
     }
     if is_white(b) {
         return Ok(Place {

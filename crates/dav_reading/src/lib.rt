@@ -3,6 +3,8 @@
 
 mod asides;
 mod contents;
+mod document;
+mod form_place;
 mod forms;
 mod heads;
 mod law;
@@ -10,9 +12,13 @@ mod line_ends;
 mod mode;
 mod reading;
 mod references;
+mod run;
+mod runs;
 mod starts;
 mod tree_fault;
 
+pub use document::Document;
+pub use form_place::FormPlace;
 pub use law::written_is_read;
-pub use reading::read_tree;
+pub use reading::{read_document, read_tree};
 pub use tree_fault::TreeFault;

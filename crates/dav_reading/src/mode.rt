@@ -1,5 +1,6 @@
+use crate::form_place::FormPlace;
 use dav_elements::{Progress, Tag};
-use dsv_base::{Bytes, Form, List};
+use dsv_base::{Bytes, List};
 
 /// Where a reader stands in what may stand between tags beside text.
 #[derive(Debug, Drop)]
@@ -28,11 +29,20 @@ pub enum Aside {
     ProcessingEnd,
 }
 
+/// How many `]` stand in a row just before, as bytes of text.
+#[derive(Clone, Copy, Debug)]
+pub enum Brackets {
+    Zero,
+    One,
+    /// Two or more.
+    Several,
+}
+
 /// Where a reader stands in a document's text.
 #[derive(Debug, Drop)]
 pub enum Mode {
-    /// Between tags.
-    Content,
+    /// Between tags, behind so many `]`: `]]>` stands in no text.
+    Content(Brackets),
     /// Behind `&` there, and these bytes.
     TextRef(List<u8>),
     /// Behind `<`.
@@ -70,9 +80,10 @@ pub struct Place {
     pub progress: Progress,
 }
 
-/// A reader in a document, with the first left-out form so far.
+/// A reader in a document: how many elements began so far, and the first left-out form.
 #[derive(Debug, Drop)]
 pub struct Reader {
     pub place: Place,
-    pub form: Option<Form>,
+    pub begun: u64,
+    pub form: Option<FormPlace>,
 }

@@ -4,6 +4,7 @@ ghost use Rattle.dav_elements.specs.Takes.{Takes};
 ghost use Rattle.dav_reading.specs.declared.mode.Mode.TheVariants as modes;
 ghost use Rattle.dav_reading.specs.Modes.{read_behind, read_keyed, with_raw, read_in};
 
+use crate::asides::between;
 use crate::line_ends::blanked;
 use crate::mode::{Mode, Place};
 use crate::references::referred;
@@ -24,10 +25,7 @@ pub fn read_behind(alloc: Global, progress: Progress, tag: Tag, b: u8) -> Result
 {
     if b == b'>' {
         let progress = enter(alloc, progress, tag)?;
-        return Ok(Place {
-            mode: Mode::Content,
-            progress,
-        });
+        return Ok(between(progress));
     }
     if b == b'/' {
         return Ok(Place {
