@@ -2,8 +2,12 @@
 //! Subversion's notes on WebDAV).
 #![tactic(auto)]
 
+mod contents;
+mod dead;
+mod found;
 mod live;
 mod live_names;
+mod locks;
 mod names;
 mod query;
 mod response;
