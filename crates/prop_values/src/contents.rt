@@ -1,10 +1,11 @@
-ghost use Rattle.std.specs.Prelude.{◌≡◌, IfOk, OnOk};
+ghost use Rattle.std.specs.Prelude.{◌≡◌, IfOk, OnOk, codes};
 ghost use Rattle.std.specs.Fmt.{decimal};
 ghost use Rattle.hex.specs.Hex.{encode_lower};
-ghost use Rattle.dav_documents.specs.Drafts.{with_elements, with_written_text};
+ghost use Rattle.dav_documents.specs.Drafts.{with_elements, with_written_text, with_attribute};
+ghost use Rattle.dav_documents.specs.Written.{attribute};
 ghost use Rattle.dav_names.specs.declared.resource.Resource.TheVariants as resources;
 ghost use Rattle.dav_names.specs.Written.{target_text};
-ghost use Rattle.prop_values.specs.Contents.{value_content, encoded_content, base64_text, tagged_element};
+ghost use Rattle.prop_values.specs.Contents.{no_content, value_content, encoded_content, base64_text, tagged_element};
 ghost use Rattle.prop_values.specs.LiveValues.{href_element};
 ghost use Rattle.prop_values.specs.Values.{content_of, with_content};
 
@@ -33,6 +34,15 @@ pub(crate) fn put_property(
 {
     tag.start(writer)?;
     put_content(alloc, writer, value)?;
+    writer.end(tag.name())
+}
+
+/// Writes the empty element of a property that has no value.
+#[tactic(auto, using(crate::proofs::Pieces::tagged_piece))]
+pub(crate) fn put_empty(writer: &mut Writer, tag: &Tag<'_>) -> Result<(), NoMemory>
+    ensures { OnOk result (writer.new ≡ with_elements (tagged_element tag.now no_content) writer.old) }
+{
+    tag.start(writer)?;
     writer.end(tag.name())
 }
 
@@ -73,8 +83,16 @@ fn put_encoded(alloc: Global, writer: &mut Writer, bytes: &[u8]) -> Result<(), N
     ensures { OnOk result (writer.new ≡ with_content (encoded_content bytes.now) writer.old) }
 {
     let text = base64_text(alloc, bytes)?;
+    put_base64(writer, text.get())
+}
+
+fn put_base64(writer: &mut Writer, text: &[u8]) -> Result<(), NoMemory>
+    ensures { OnOk result
+        (writer.new ≡ with_written_text text.now
+        (with_attribute (attribute (codes "V:encoding") (codes "base64")) writer.old)) }
+{
     writer.attribute(b"V:encoding", b"base64")?;
-    writer.text(text.get())
+    writer.text(text)
 }
 
 #[tactic(auto, unfolding(crate::specs::Contents::base64_text))]

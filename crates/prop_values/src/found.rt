@@ -7,7 +7,7 @@ ghost use Rattle.prop_values.specs.DeadValues.{dead_values, dead_value};
 ghost use Rattle.prop_values.specs.Responses.{value_named, has_value, found_element, missing_element};
 ghost use Rattle.prop_values.specs.Values.{content_of};
 
-use crate::contents::put_property;
+use crate::contents::{put_empty, put_property};
 use crate::dead::{Named, value_among};
 use crate::query::AskedName;
 use crate::subject::Subject;
@@ -123,7 +123,6 @@ fn put_if_found(
 
 /// Writes the empty elements of those of these names that have no value.
 pub(crate) fn put_missing(
-    alloc: Global,
     writer: &mut Writer,
     sources: &Sources<'_>,
     names: &[AskedName<'_>],
@@ -134,14 +133,12 @@ pub(crate) fn put_missing(
         (for_each (missing_element sources.now.told.now sources.now.subject.now) names.now) writer.old) }
 {
     'names: for asked in names {
-        put_if_missing(alloc, writer, sources, asked)?;
+        put_if_missing(writer, sources, asked)?;
     }
     Ok(())
 }
 
-#[tactic(auto, unfolding(crate::specs::Values::content_of))]
 fn put_if_missing(
-    alloc: Global,
     writer: &mut Writer,
     sources: &Sources<'_>,
     asked: &AskedName<'_>,
@@ -154,5 +151,5 @@ fn put_if_missing(
     if has_value(sources, asked) {
         return Ok(());
     }
-    put_property(alloc, writer, asked.tag(), &Value::Empty)
+    put_empty(writer, asked.tag())
 }

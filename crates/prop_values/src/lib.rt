@@ -5,6 +5,7 @@
 mod contents;
 mod dead;
 mod found;
+mod href;
 mod live;
 mod live_names;
 mod locks;
@@ -15,6 +16,7 @@ mod subject;
 mod tag;
 mod told;
 mod value;
+mod whole;
 
 pub use live::Live;
 pub use query::Query;
