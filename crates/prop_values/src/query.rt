@@ -1,10 +1,13 @@
 ghost use Rattle.std.specs.Prelude.{◌≡◌, ◌++◌, IfOk, Some, None, false};
 ghost use Rattle.std.specs.Option.{option_copied};
 ghost use Rattle.prop_values.specs.PropTags.{tag_of};
+ghost use Rattle.std.specs.List.{list_any};
 ghost use Rattle.prop_values.specs.LiveNames.{live_named};
+ghost use Rattle.prop_values.specs.Records.{tells_record, is_revision, asks_record, wants_record, IsSameForRecords};
 
 use crate::live::Live;
 use crate::live_names::live_named;
+use crate::subject::Subject;
 use crate::tag::Tag;
 use dsv_base::{NoMemory, PropName};
 use std::alloc::Global;
@@ -95,6 +98,20 @@ impl<'a> Query<'a> {
         Ok(Query { names: Some(names) })
     }
 
+    /// Whether something that is wanted of a node or a revision is told from the record of a revision:
+    /// date, author or a property of that revision. Where it isn't, the answer is the same whatever is
+    /// shown of the record, so that nobody has to look for it.
+    #[tactic(auto, using(crate::proofs::Unneeded::unneeded))]
+    pub fn wants_record(&self, subject: &Subject<'_>) -> bool
+        ensures value { result ≡ wants_record self.now subject.now }
+        ensures same { result ≡ false → IsSameForRecords self.now subject.now }
+    {
+        match self.names() {
+            None => true,
+            Some(names) => any_asks_record(names, subject),
+        }
+    }
+
     /// The names, where not all properties are wanted.
     pub(crate) fn names(&self) -> Option<&[AskedName<'a>]>
         ensures { option_copied result ≡ self.now }
@@ -115,4 +132,46 @@ fn looked_up<'a>(alloc: Global, names: &'a [PropName]) -> Result<Vec<AskedName<'
         all.push(AskedName::of(alloc, name)?)?;
     }
     Ok(all)
+}
+
+fn any_asks_record(names: &[AskedName<'_>], subject: &Subject<'_>) -> bool
+    ensures { result ≡ list_any (asks_record subject.now) names.now }
+{
+    'names: for asked in names {
+        if asks_record(asked, subject) {
+            return true;
+        }
+    }
+    false
+}
+
+/// Whether the property of this name is told from the record of a revision.
+fn asks_record(asked: &AskedName<'_>, subject: &Subject<'_>) -> bool
+    ensures { result ≡ asks_record subject.now asked.now }
+{
+    match asked.live() {
+        Some(live) => tells_record(live),
+        None => is_revision(subject),
+    }
+}
+
+fn tells_record(live: Live) -> bool
+    ensures { result ≡ tells_record live }
+{
+    match live {
+        Live::CreationDate => true,
+        Live::LastModified => true,
+        Live::CreatorName => true,
+        _ => false,
+    }
+}
+
+fn is_revision(subject: &Subject<'_>) -> bool
+    ensures { result ≡ is_revision subject.now }
+{
+    match subject {
+        Subject::WholeRevision(_rev) => true,
+        Subject::YoungestNode(_place) => false,
+        Subject::RevisionNode(_place) => false,
+    }
 }
