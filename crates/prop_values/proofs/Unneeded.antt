@@ -1,18 +1,16 @@
 -- Where nothing of the record of a revision is asked for, the answer doesn't depend on it.
-use Rattle.std.proofs.Common.{◌≡◌, ◌≢◌, Bool, true, false, not, ◌||◌, cond, List, [], ◌∷◌, Option, None, Some, refl, sym, ap, ◌∙◌}
+use Rattle.std.proofs.Common.{◌≡◌, Bool, true, false, not, ◌||◌, List, [], ◌∷◌, Option, None, Some, refl, ap, ◌∙◌}
 use Rattle.std.specs.Prelude.{is_some, codes}
 use Rattle.std.specs.List.{list_any}
-use Rattle.std.specs.Option.{option_map}
 use Rattle.dsv_base.specs.declared.prop_name.PropName.{PropName}
-use Rattle.dav_documents.specs.Written.{Written, element, joined, for_each}
-use Rattle.prop_values.specs.Contents.{Content}
+use Rattle.dav_documents.specs.Written.{element, joined, for_each}
 use Rattle.prop_values.specs.LiveNames.{live_named}
 use Rattle.prop_values.specs.LiveValues.{live_value, href_element, lock_content}
 use Rattle.prop_values.specs.Subjects.{subject_href}
 use Rattle.prop_values.specs.DeadValues.{dead_value, dead_values}
 use Rattle.prop_values.specs.Places.{Told}
 use Rattle.prop_values.specs.Records.{tells_record, is_revision, asks_by, asks_record, wants_record, AreSameBesideRecord, IsSameForRecords}
-use Rattle.prop_values.specs.Responses.{value_by, value_named, has_value, told_element, found_element, missing_element, found_propstat, missing_propstat, found_part, missing_part, wanted_propstats, response_about}
+use Rattle.prop_values.specs.Responses.{value_by, value_named, has_value, told_element, found_element, missing_element, wanted_propstats, response_about}
 use Rattle.prop_values.specs.declared.live.Live.{Live}
 use Rattle.prop_values.specs.declared.live.Live.TheVariants.{ResourceType, ContentLength, VersionName, CreationDate, LastModified, CreatorName, CheckedIn, LockDiscovery, RelativePath, RepositoryUuid, Md5Checksum, Sha1Checksum, PropertyCount}
 use Rattle.prop_values.specs.declared.subject.Subject.{Subject}

@@ -48,7 +48,11 @@ pub(crate) fn put_empty(writer: &mut Writer, tag: &Tag<'_>) -> Result<(), NoMemo
 
 /// Writes what stands in the element of a property.
 #[tactic(auto, unfolding(crate::specs::Values::content_of))]
-pub(crate) fn put_content(alloc: Global, writer: &mut Writer, value: &Value<'_>) -> Result<(), NoMemory>
+pub(crate) fn put_content(
+    alloc: Global,
+    writer: &mut Writer,
+    value: &Value<'_>,
+) -> Result<(), NoMemory>
     ensures { OnOk result (writer.new ≡ with_content (content_of value.now) writer.old) }
 {
     match value {

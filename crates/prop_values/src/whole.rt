@@ -21,7 +21,11 @@ use std::alloc::Global;
 
 /// Writes the elements of all properties.
 #[tactic(auto, using(dav_documents::proofs::Trees::with_elements_joined))]
-pub(crate) fn put_all(alloc: Global, writer: &mut Writer, sources: &Sources<'_>) -> Result<(), NoMemory>
+pub(crate) fn put_all(
+    alloc: Global,
+    writer: &mut Writer,
+    sources: &Sources<'_>,
+) -> Result<(), NoMemory>
     requires { sources.now.dead.now ≡ dead_values sources.now.told.now sources.now.subject.now }
     ensures { OnOk result
         (writer.new ≡ with_elements (all_elements sources.now.told.now sources.now.subject.now) writer.old) }
