@@ -1,4 +1,4 @@
-ghost use Rattle.std.specs.Prelude.{◌≡◌, ◌++◌, [], IfOk};
+ghost use Rattle.std.specs.Prelude.{◌≡◌, ◌++◌, [], IfOk, codes};
 ghost use Rattle.prop_values.specs.PropTags.{name_within, same_name, dead_name, tag_of};
 
 use dav_documents::Namespace;
@@ -35,15 +35,17 @@ pub(crate) fn dead_tag(alloc: Global, own: &[u8]) -> Result<Bytes, NoMemory>
     ensures { IfOk result (λ name. tag_of (dead_name own.now) ≡ record { name = name; attributes = [] }) }
 {
     match own {
-        [b's', b'v', b'n', b':', behind @ ..] => prefixed(alloc, b"S:", behind),
-        _ => prefixed(alloc, b"C:", own),
+        [b's', b'v', b'n', b':', behind @ ..] => prefixed(alloc, b"S", behind),
+        _ => prefixed(alloc, b"C", own),
     }
 }
 
-fn prefixed(alloc: Global, prefix: &[u8], local: &[u8]) -> Result<Bytes, NoMemory>
-    ensures { IfOk result (λ name. name ≡ prefix.now ++ local.now) }
+/// A local name behind a prefix. Its one error is want of memory.
+pub(crate) fn prefixed(alloc: Global, prefix: &[u8], local: &[u8]) -> Result<Bytes, NoMemory>
+    ensures { IfOk result (λ name. name ≡ prefix.now ++ codes ":" ++ local.now) }
 {
     let mut name = Vec::from_slice(alloc, prefix)?;
+    name.push(b':')?;
     name.extend_from_slice(local)?;
     Ok(Bytes::from_vec(name))
 }
