@@ -3,10 +3,7 @@ use Rattle.std.proofs.Common.{◌≡◌, ℕ, zero, suc, true, false, List, [], 
 use Rattle.std.specs.Prelude.{codes}
 use Rattle.std.specs.Fmt.{digits}
 use Rattle.std.specs.Str.{is_utf8, chars}
-use Rattle.hex.specs.Hex.{encode_lower}
-use Rattle.md5.specs.Md5.{md5}
 use Rattle.base64.specs.Rfc4648.{encode_symbols}
-use Rattle.sha1.specs.Sha1.{sha1}
 use Rattle.std.proofs.Math.Utf8.{encode}
 use Rattle.dsv_base.specs.Escapes.{xml_text, xml_plain, url_text}
 use Rattle.dsv_base.specs.Paths.{parent_text}
@@ -17,7 +14,7 @@ use Rattle.rev_nodes.specs.Trees.{Tree, TreeNode, new_dir, new_file, new_line}
 use Rattle.dav_names.specs.declared.resource.Resource.TheVariants.{Public, Me, Rvr, RevOnly}
 use Rattle.dav_names.specs.Written.{target_text, resource_text}
 use Rattle.dav_documents.specs.Namespaces.{uri_of}
-use Rattle.dav_documents.specs.Written.{Written, attribute, empty_element, text_element, element, joined, all_of, page_text, body_text}
+use Rattle.dav_documents.specs.Written.{page_text, body_text}
 use Rattle.log_access.specs.Records.{ShownRecord}
 use Rattle.log_access.specs.declared.level.Level.TheVariants as levels
 use Rattle.path_locks.specs.declared.lock.Lock.{Lock}
