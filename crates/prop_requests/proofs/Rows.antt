@@ -3,10 +3,7 @@ use Rattle.std.proofs.Common.{◌≡◌, ℕ, zero, suc, true, false, List, [], 
 use Rattle.std.specs.Prelude.{codes}
 use Rattle.std.specs.Fmt.{digits}
 use Rattle.std.specs.Str.{is_utf8, chars}
-use Rattle.hex.specs.Hex.{encode_lower}
-use Rattle.md5.specs.Md5.{md5}
 use Rattle.base64.specs.Rfc4648.{encode_symbols}
-use Rattle.sha1.specs.Sha1.{sha1}
 use Rattle.std.proofs.Math.Utf8.{encode}
 use Rattle.dsv_base.specs.Escapes.{xml_text, xml_plain, url_text}
 use Rattle.dsv_base.specs.Paths.{parent_text}
@@ -17,16 +14,16 @@ use Rattle.rev_nodes.specs.Trees.{Tree, TreeNode, new_dir, new_file, new_line}
 use Rattle.dav_names.specs.declared.resource.Resource.TheVariants.{Public, Me, Rvr, RevOnly}
 use Rattle.dav_names.specs.Written.{target_text, resource_text}
 use Rattle.dav_documents.specs.Namespaces.{uri_of}
-use Rattle.dav_documents.specs.Written.{Written, attribute, empty_element, text_element, element, joined, all_of, page_text, body_text}
+use Rattle.dav_documents.specs.Written.{page_text, body_text}
 use Rattle.log_access.specs.Records.{ShownRecord}
 use Rattle.log_access.specs.declared.level.Level.TheVariants as levels
 use Rattle.path_locks.specs.declared.lock.Lock.{Lock}
 use Rattle.path_locks.specs.LockStates.{no_locks, with_lock}
 use Rattle.prop_values.specs.PropTags.{tag_of}
-use Rattle.prop_values.specs.Contents.{value_content}
+use Rattle.prop_values.specs.Contents.{value_content, base64_text}
 use Rattle.prop_values.specs.LiveNames.{live_named}
 use Rattle.prop_values.specs.Subjects.{PropSources, told_of, subject_of, children_of}
-use Rattle.prop_values.specs.LiveValues.{live_value, lock_element}
+use Rattle.prop_values.specs.LiveValues.{live_value, owner_element, lock_element}
 use Rattle.prop_values.specs.DeadValues.{dead_values, dead_value}
 use Rattle.prop_values.specs.Responses.{value_named, response_about}
 use Rattle.prop_requests.specs.Multistatus.{multistatus_tree, propfind_text}
@@ -124,77 +121,77 @@ missing_of inside = codes "<D:propstat><D:prop>" ++ inside ++ codes "</D:prop><D
 -- two live properties of a file, in the order asked
 two_live : propfind_text sources (Rvr 2 (codes "/a")) false (Some (dav (codes "version-name") ∷ dav (codes "getcontentlength") ∷ []))
     ≡ Some (document_of (response_of (codes "/svn/demo/!svn/rvr/2/a") (found_of (codes "<D:version-name>1</D:version-name><D:getcontentlength>3</D:getcontentlength>"))))
-unfolding propfind_text subject_of children_of multistatus_tree response_about told_of value_named live_named live_value dead_values dead_value value_content lock_element tag_of parent_text target_text resource_text url_text body_text page_text xml_text uri_of digits iso_text http_text part_at xml_plain is_utf8 chars encode encode_symbols
+unfolding propfind_text subject_of children_of multistatus_tree response_about told_of value_named live_named live_value dead_values dead_value value_content base64_text owner_element lock_element tag_of parent_text target_text resource_text url_text body_text page_text xml_text uri_of digits iso_text http_text part_at xml_plain is_utf8 chars encode encode_symbols
 two_live = refl
 
 -- of a revision of which nothing is shown neither author nor date is told, and a directory has no length
 not_shown : propfind_text sources (Public (codes "/b c")) false (Some (dav (codes "creator-displayname") ∷ dav (codes "version-name") ∷ dav (codes "creationdate") ∷ dav (codes "getlastmodified") ∷ dav (codes "getcontentlength") ∷ []))
     ≡ Some (document_of (response_of (codes "/svn/demo/b%20c/") (found_of (codes "<D:version-name>2</D:version-name>") ++ missing_of (codes "<D:creator-displayname/><D:creationdate/><D:getlastmodified/><D:getcontentlength/>"))))
-unfolding propfind_text subject_of children_of multistatus_tree response_about told_of value_named live_named live_value dead_values dead_value value_content lock_element tag_of parent_text target_text resource_text url_text body_text page_text xml_text uri_of digits iso_text http_text part_at xml_plain is_utf8 chars encode encode_symbols
+unfolding propfind_text subject_of children_of multistatus_tree response_about told_of value_named live_named live_value dead_values dead_value value_content base64_text owner_element lock_element tag_of parent_text target_text resource_text url_text body_text page_text xml_text uri_of digits iso_text http_text part_at xml_plain is_utf8 chars encode encode_symbols
 not_shown = refl
 
 -- a directory and its children, of which a hidden one isn't told, nor what stands deeper
 with_children : propfind_text sources (Public (codes "/")) true (Some (dav (codes "resourcetype") ∷ []))
     ≡ Some (document_of (response_of (codes "/svn/demo/") (found_of (codes "<D:resourcetype><D:collection/></D:resourcetype>")) ++ response_of (codes "/svn/demo/a") (found_of (codes "<D:resourcetype/>")) ++ response_of (codes "/svn/demo/b%20c/") (found_of (codes "<D:resourcetype><D:collection/></D:resourcetype>"))))
-unfolding propfind_text subject_of children_of multistatus_tree response_about told_of value_named live_named live_value dead_values dead_value value_content lock_element tag_of parent_text target_text resource_text url_text body_text page_text xml_text uri_of digits iso_text http_text part_at xml_plain is_utf8 chars encode encode_symbols
+unfolding propfind_text subject_of children_of multistatus_tree response_about told_of value_named live_named live_value dead_values dead_value value_content base64_text owner_element lock_element tag_of parent_text target_text resource_text url_text body_text page_text xml_text uri_of digits iso_text http_text part_at xml_plain is_utf8 chars encode encode_symbols
 with_children = refl
 
 -- the children of a directory of a named revision are told as those of that revision
 named_children : propfind_text sources (Rvr 2 (codes "/b c")) true (Some (dav (codes "checked-in") ∷ []))
     ≡ Some (document_of (response_of (codes "/svn/demo/!svn/rvr/2/b%20c/") (found_of (codes "<D:checked-in><D:href>/svn/demo/!svn/rvr/2/b%20c</D:href></D:checked-in>")) ++ response_of (codes "/svn/demo/!svn/rvr/2/b%20c/x") (found_of (codes "<D:checked-in><D:href>/svn/demo/!svn/rvr/2/b%20c/x</D:href></D:checked-in>"))))
-unfolding propfind_text subject_of children_of multistatus_tree response_about told_of value_named live_named live_value dead_values dead_value value_content lock_element tag_of parent_text target_text resource_text url_text body_text page_text xml_text uri_of digits iso_text http_text part_at xml_plain is_utf8 chars encode encode_symbols
+unfolding propfind_text subject_of children_of multistatus_tree response_about told_of value_named live_named live_value dead_values dead_value value_content base64_text owner_element lock_element tag_of parent_text target_text resource_text url_text body_text page_text xml_text uri_of digits iso_text http_text part_at xml_plain is_utf8 chars encode encode_symbols
 named_children = refl
 
 -- a file has no children
 no_children : propfind_text sources (Public (codes "/a")) true (Some (dav (codes "version-name") ∷ []))
     ≡ Some (document_of (response_of (codes "/svn/demo/a") (found_of (codes "<D:version-name>1</D:version-name>"))))
-unfolding propfind_text subject_of children_of multistatus_tree response_about told_of value_named live_named live_value dead_values dead_value value_content lock_element tag_of parent_text target_text resource_text url_text body_text page_text xml_text uri_of digits iso_text http_text part_at xml_plain is_utf8 chars encode encode_symbols
+unfolding propfind_text subject_of children_of multistatus_tree response_about told_of value_named live_named live_value dead_values dead_value value_content base64_text owner_element lock_element tag_of parent_text target_text resource_text url_text body_text page_text xml_text uri_of digits iso_text http_text part_at xml_plain is_utf8 chars encode encode_symbols
 no_children = refl
 
 -- names with a property and without one, some twice; a name of WebDAV that is none of ours, a foreign one, and one without a namespace
 by_name : propfind_text sources (Public (codes "/a")) false (Some (own (codes "eol-style") ∷ dav (codes "displayname") ∷ custom (codes "note") ∷ own (codes "eol-style") ∷ custom (codes "eol-style") ∷ foreign ∷ bare ∷ foreign ∷ []))
     ≡ Some (document_of (response_of (codes "/svn/demo/a") (found_of (codes "<S:eol-style>native</S:eol-style><C:note V:encoding=\"base64\">AQ==</C:note><S:eol-style>native</S:eol-style>") ++ missing_of (codes "<D:displayname/><C:eol-style/><N:x xmlns:N=\"urn:a&amp;b\"/><x/><N:x xmlns:N=\"urn:a&amp;b\"/>"))))
-unfolding propfind_text subject_of children_of multistatus_tree response_about told_of value_named live_named live_value dead_values dead_value value_content lock_element tag_of parent_text target_text resource_text url_text body_text page_text xml_text uri_of digits iso_text http_text part_at xml_plain is_utf8 chars encode encode_symbols
+unfolding propfind_text subject_of children_of multistatus_tree response_about told_of value_named live_named live_value dead_values dead_value value_content base64_text owner_element lock_element tag_of parent_text target_text resource_text url_text body_text page_text xml_text uri_of digits iso_text http_text part_at xml_plain is_utf8 chars encode encode_symbols
 by_name = refl
 
 -- where nothing asked for is there, what was found isn't told
 all_missing : propfind_text sources (Rvr 2 (codes "/a")) false (Some (dav (codes "lockdiscovery") ∷ []))
     ≡ Some (document_of (response_of (codes "/svn/demo/!svn/rvr/2/a") (missing_of (codes "<D:lockdiscovery/>"))))
-unfolding propfind_text subject_of children_of multistatus_tree response_about told_of value_named live_named live_value dead_values dead_value value_content lock_element tag_of parent_text target_text resource_text url_text body_text page_text xml_text uri_of digits iso_text http_text part_at xml_plain is_utf8 chars encode encode_symbols
+unfolding propfind_text subject_of children_of multistatus_tree response_about told_of value_named live_named live_value dead_values dead_value value_content base64_text owner_element lock_element tag_of parent_text target_text resource_text url_text body_text page_text xml_text uri_of digits iso_text http_text part_at xml_plain is_utf8 chars encode encode_symbols
 all_missing = refl
 
 -- where nothing is asked for, nothing was found
 none_asked : propfind_text sources (Public (codes "/a")) false (Some [])
     ≡ Some (document_of (response_of (codes "/svn/demo/a") (codes "<D:propstat><D:prop/><D:status>HTTP/1.1 200 OK</D:status></D:propstat>")))
-unfolding propfind_text subject_of children_of multistatus_tree response_about told_of value_named live_named live_value dead_values dead_value value_content lock_element tag_of parent_text target_text resource_text url_text body_text page_text xml_text uri_of digits iso_text http_text part_at xml_plain is_utf8 chars encode encode_symbols
+unfolding propfind_text subject_of children_of multistatus_tree response_about told_of value_named live_named live_value dead_values dead_value value_content base64_text owner_element lock_element tag_of parent_text target_text resource_text url_text body_text page_text xml_text uri_of digits iso_text http_text part_at xml_plain is_utf8 chars encode encode_symbols
 none_asked = refl
 
 -- a lock is told in full
 locked : propfind_text locked_sources (Public (codes "/a")) false (Some (dav (codes "lockdiscovery") ∷ []))
     ≡ Some (document_of (response_of (codes "/svn/demo/a") (found_of (codes "<D:lockdiscovery><D:activelock><D:locktype><D:write/></D:locktype><D:lockscope><D:exclusive/></D:lockscope><D:depth>0</D:depth><D:owner>mine &amp; &lt;only&gt;</D:owner><D:timeout>Infinite</D:timeout><D:locktoken><D:href>opaquelocktoken:1</D:href></D:locktoken><D:lockroot><D:href>/svn/demo/a</D:href></D:lockroot></D:activelock></D:lockdiscovery>"))))
-unfolding propfind_text subject_of children_of multistatus_tree response_about told_of value_named live_named live_value dead_values dead_value value_content lock_element tag_of parent_text target_text resource_text url_text body_text page_text xml_text uri_of digits iso_text http_text part_at xml_plain is_utf8 chars encode encode_symbols
+unfolding propfind_text subject_of children_of multistatus_tree response_about told_of value_named live_named live_value dead_values dead_value value_content base64_text owner_element lock_element tag_of parent_text target_text resource_text url_text body_text page_text xml_text uri_of digits iso_text http_text part_at xml_plain is_utf8 chars encode encode_symbols
 locked = refl
 
 -- a revision with all its properties, author and date among the dead ones; it has no children
 whole_revision : propfind_text sources (RevOnly 1) true None
     ≡ Some (document_of (response_of (codes "/svn/demo/!svn/rev/1") (found_of (codes "<D:resourcetype><D:baseline/></D:resourcetype><D:version-name>1</D:version-name><D:creationdate>1994-11-06T08:49:37.000000Z</D:creationdate><D:creator-displayname>ann</D:creator-displayname><V:repository-uuid>u-1</V:repository-uuid><S:author>ann</S:author><S:date>1994-11-06T08:49:37.000000Z</S:date><S:log>first</S:log>"))))
-unfolding propfind_text subject_of children_of multistatus_tree response_about told_of value_named live_named live_value dead_values dead_value value_content lock_element tag_of parent_text target_text resource_text url_text body_text page_text xml_text uri_of digits iso_text http_text part_at xml_plain is_utf8 chars encode encode_symbols
+unfolding propfind_text subject_of children_of multistatus_tree response_about told_of value_named live_named live_value dead_values dead_value value_content base64_text owner_element lock_element tag_of parent_text target_text resource_text url_text body_text page_text xml_text uri_of digits iso_text http_text part_at xml_plain is_utf8 chars encode encode_symbols
 whole_revision = refl
 
 -- a revision of which nothing is shown
 hidden_revision : propfind_text sources (RevOnly 2) false None
     ≡ Some (document_of (response_of (codes "/svn/demo/!svn/rev/2") (found_of (codes "<D:resourcetype><D:baseline/></D:resourcetype><D:version-name>2</D:version-name><V:repository-uuid>u-1</V:repository-uuid>"))))
-unfolding propfind_text subject_of children_of multistatus_tree response_about told_of value_named live_named live_value dead_values dead_value value_content lock_element tag_of parent_text target_text resource_text url_text body_text page_text xml_text uri_of digits iso_text http_text part_at xml_plain is_utf8 chars encode encode_symbols
+unfolding propfind_text subject_of children_of multistatus_tree response_about told_of value_named live_named live_value dead_values dead_value value_content base64_text owner_element lock_element tag_of parent_text target_text resource_text url_text body_text page_text xml_text uri_of digits iso_text http_text part_at xml_plain is_utf8 chars encode encode_symbols
 hidden_revision = refl
 
 -- all properties of a directory of the youngest revision
 whole_directory : propfind_text sources (Public (codes "/")) false None
     ≡ Some (document_of (response_of (codes "/svn/demo/") (found_of (codes "<D:resourcetype><D:collection/></D:resourcetype><D:version-name>2</D:version-name><D:checked-in><D:href>/svn/demo/!svn/rvr/2</D:href></D:checked-in><D:lockdiscovery/><V:baseline-relative-path/><V:repository-uuid>u-1</V:repository-uuid><V:deadprop-count>0</V:deadprop-count>"))))
-unfolding propfind_text subject_of children_of multistatus_tree response_about told_of value_named live_named live_value dead_values dead_value value_content lock_element tag_of parent_text target_text resource_text url_text body_text page_text xml_text uri_of digits iso_text http_text part_at xml_plain is_utf8 chars encode encode_symbols
+unfolding propfind_text subject_of children_of multistatus_tree response_about told_of value_named live_named live_value dead_values dead_value value_content base64_text owner_element lock_element tag_of parent_text target_text resource_text url_text body_text page_text xml_text uri_of digits iso_text http_text part_at xml_plain is_utf8 chars encode encode_symbols
 whole_directory = refl
 
 -- where the user is shown no such node, or the resource has no properties, there is no answer
 no_answer : propfind_text sources (Public (codes "/sec")) true None ∷ propfind_text sources (Rvr 2 (codes "/sec/k")) false (Some []) ∷ propfind_text sources Me false None ∷ []
     ≡ None ∷ None ∷ None ∷ []
-unfolding propfind_text subject_of children_of multistatus_tree response_about told_of value_named live_named live_value dead_values dead_value value_content lock_element tag_of parent_text target_text resource_text url_text body_text page_text xml_text uri_of digits iso_text http_text part_at xml_plain is_utf8 chars encode encode_symbols
+unfolding propfind_text subject_of children_of multistatus_tree response_about told_of value_named live_named live_value dead_values dead_value value_content base64_text owner_element lock_element tag_of parent_text target_text resource_text url_text body_text page_text xml_text uri_of digits iso_text http_text part_at xml_plain is_utf8 chars encode encode_symbols
 no_answer = refl

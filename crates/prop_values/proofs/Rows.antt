@@ -20,11 +20,11 @@ use Rattle.log_access.specs.Records.{ShownRecord}
 use Rattle.log_access.specs.declared.level.Level.TheVariants as levels
 use Rattle.path_locks.specs.LockStates.{no_locks}
 use Rattle.prop_values.specs.PropTags.{tag_of}
-use Rattle.prop_values.specs.Contents.{value_content}
+use Rattle.prop_values.specs.Contents.{value_content, base64_text}
 use Rattle.prop_values.specs.LiveNames.{live_named}
 use Rattle.prop_values.specs.Subjects.{PropSources, told_of}
 use Rattle.prop_values.specs.declared.subject.Subject.TheVariants.{YoungestNode}
-use Rattle.prop_values.specs.LiveValues.{live_value, lock_element}
+use Rattle.prop_values.specs.LiveValues.{live_value, owner_element, lock_element}
 use Rattle.prop_values.specs.DeadValues.{dead_values, dead_value}
 use Rattle.prop_values.specs.Responses.{value_named, response_about, response_element}
 
@@ -91,7 +91,7 @@ whole_file_elements =
 -- they are all that is told of it, before the dead ones in byte order of their own names
 whole_file : response_element sources None (YoungestNode (record { rev = 2; path = codes "/a"; node = marked_file.node }))
     ≡ element (codes "D:response") [] (joined (text_element (codes "D:href") [] (codes "/svn/demo/a")) (element (codes "D:propstat") [] (joined (element (codes "D:prop") [] (all_of whole_file_elements)) (text_element (codes "D:status") [] (codes "HTTP/1.1 200 OK")))))
-unfolding response_about told_of value_named live_named live_value dead_values dead_value value_content lock_element tag_of parent_text target_text resource_text url_text body_text page_text xml_text uri_of digits iso_text http_text part_at xml_plain is_utf8 chars encode encode_symbols
+unfolding response_about told_of value_named live_named live_value dead_values dead_value value_content base64_text owner_element lock_element tag_of parent_text target_text resource_text url_text body_text page_text xml_text uri_of digits iso_text http_text part_at xml_plain is_utf8 chars encode encode_symbols
 whole_file = refl
 
 -- no prefix may be bound to the namespace of the prefix xml, which is bound to it without that

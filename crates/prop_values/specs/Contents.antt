@@ -25,11 +25,15 @@ inside_content inside = record { attributes = []; text = []; inside = inside }
 abbrev pub text_content : List ℕ → Content
 text_content text = record { attributes = []; text = text; inside = Nothing }
 
--- the base64 of these bytes (RFC 4648, section 4), with the attribute that says so
+-- the base64 of these bytes (RFC 4648, section 4)
+unfoldable pub base64_text : List ℕ → List ℕ
+base64_text bytes = encode_of standard bytes
+
+-- the base64 of these bytes, with the attribute that says so
 abbrev pub encoded_content : List ℕ → Content
 encoded_content bytes = record {
   attributes = attribute (codes "V:encoding") (codes "base64") ∷ [];
-  text = encode_of standard bytes;
+  text = base64_text bytes;
   inside = Nothing;
 }
 

@@ -52,6 +52,10 @@ type_content (WholeRevision rev) = inside_content (empty_element (codes "D:basel
 abbrev pub checked_in_content : List ℕ → NodePlace → Content
 checked_in_content root place = inside_content (href_element (target_text root (Rvr place.rev place.path)))
 
+-- what the owner of a lock said of it
+unfoldable pub owner_element : List ℕ → Written
+owner_element comment = content_element (codes "D:owner") [] (value_content comment)
+
 -- a lock: it is for writing, exclusive, for its path alone and without an end; then what its owner said of it, its
 -- token, and where its path is in the youngest revision (RFC 4918, section 14.1)
 unfoldable pub lock_element : List ℕ → Lock → Written
@@ -59,7 +63,7 @@ lock_element root lock = element (codes "D:activelock") []
     (joined (element (codes "D:locktype") [] (empty_element (codes "D:write") []))
     (joined (element (codes "D:lockscope") [] (empty_element (codes "D:exclusive") []))
     (joined (text_element (codes "D:depth") [] (codes "0"))
-    (joined (content_element (codes "D:owner") [] (value_content lock.comment))
+    (joined (owner_element lock.comment)
     (joined (text_element (codes "D:timeout") [] (codes "Infinite"))
     (joined (element (codes "D:locktoken") [] (href_element lock.token))
     (element (codes "D:lockroot") [] (href_element (target_text root (Public lock.path))))))))))

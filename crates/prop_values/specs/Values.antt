@@ -1,13 +1,11 @@
 -- Values of properties before they are written, and how they are written.
-use Rattle.std.specs.Prelude.{ℕ, List, [], ◌∷◌, codes, Option, Some, None, ◌≡◌}
+use Rattle.std.specs.Prelude.{[], codes}
 use Rattle.std.specs.Fmt.{decimal}
 use Rattle.hex.specs.Hex.{encode_lower}
-use Rattle.dsv_base.specs.declared.prop_name.PropName.{PropName}
 use Rattle.dsv_dates.specs.Dates.{iso_text, http_text}
-use Rattle.dav_documents.specs.Written.{Attribute, binding, empty_element}
+use Rattle.dav_documents.specs.Written.{empty_element}
 use Rattle.dav_documents.specs.Drafts.{Draft, with_elements, with_written_text, with_attributes}
 use Rattle.prop_values.specs.Contents.{Content, no_content, inside_content, text_content, value_content}
-use Rattle.prop_values.specs.Places.{NodePlace}
 use Rattle.prop_values.specs.LiveValues.{checked_in_content, lock_element}
 use Rattle.prop_values.specs.declared.value.Value.{Value}
 use Rattle.prop_values.specs.declared.value.Value.TheVariants.{Empty, Collection, Baseline, Text, Raw, Number, IsoTime, HttpTime, Md5, Sha1, CheckedIn, Locked}

@@ -2,8 +2,13 @@
 //! Subversion's notes on WebDAV).
 #![tactic(auto)]
 
+mod contents;
+mod dead;
+mod found;
+mod href;
 mod live;
 mod live_names;
+mod locks;
 mod names;
 mod query;
 mod response;
@@ -11,6 +16,7 @@ mod subject;
 mod tag;
 mod told;
 mod value;
+mod whole;
 
 pub use live::Live;
 pub use query::Query;

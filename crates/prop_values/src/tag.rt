@@ -6,6 +6,7 @@ ghost use Rattle.dav_documents.specs.Drafts.{started, with_attributes};
 ghost use Rattle.dav_documents.specs.Namespaces.{uri_of};
 ghost use Rattle.prop_values.specs.PropTags.{bound_prefixes, unbound_tag, tag_of};
 
+use crate::names::prefixed;
 use dav_documents::{Namespace, Writer};
 use dsv_base::{Bytes, NoMemory, PropName};
 use std::alloc::Global;
@@ -105,14 +106,4 @@ fn bound_prefix(space: &[u8]) -> Option<&'static [u8]>
         return Some(b"C");
     }
     None
-}
-
-/// A local name behind a prefix.
-fn prefixed(alloc: Global, prefix: &[u8], local: &[u8]) -> Result<Bytes, NoMemory>
-    ensures { IfOk result (λ name. name ≡ prefix.now ++ codes ":" ++ local.now) }
-{
-    let mut name = Vec::from_slice(alloc, prefix)?;
-    name.push(b':')?;
-    name.extend_from_slice(local)?;
-    Ok(Bytes::from_vec(name))
 }

@@ -27,11 +27,11 @@ impl<'a> Model for Told<'a> {
     ghost Value = { Known };
 
     ghost view = { λ t. record {
-        root = t.root.now;
-        uuid = t.uuid.now;
-        lock = option_copied t.lock;
-        props = t.props.now;
-        author = option_copied t.author;
-        moment = t.moment;
+      root = t.root.now;
+      uuid = t.uuid.now;
+      lock = option_copied t.lock;
+      props = t.props.now;
+      author = option_copied t.author;
+      moment = t.moment;
     } };
 }

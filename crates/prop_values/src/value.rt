@@ -48,7 +48,11 @@ pub(crate) enum Value<'a> {
 
 /// The value of a live property here, where it has one.
 #[tactic(auto, unfolding(crate::specs::LiveValues::live_value))]
-pub(crate) fn live_value<'a>(told: &'a Told<'a>, subject: &'a Subject<'a>, live: Live) -> Option<Value<'a>>
+pub(crate) fn live_value<'a>(
+    told: &'a Told<'a>,
+    subject: &'a Subject<'a>,
+    live: Live,
+) -> Option<Value<'a>>
     ensures { option_map content_of result ≡ live_value told.now subject.now live }
 {
     match live {
