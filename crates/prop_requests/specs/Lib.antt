@@ -1,1 +1,3 @@
 pub mod Multistatus
+pub mod Sights
+pub mod Propfinds

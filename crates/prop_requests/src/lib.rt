@@ -1,3 +1,11 @@
-//! What a PROPFIND answers (RFC 4918, sections 9.1 and 13; Subversion's notes on WebDAV). As yet this crate
-//! has the definitions.
+//! What a PROPFIND answers: the properties of a node or a revision (RFC 4918, sections 9.1, 14 and 15;
+//! Subversion's notes on WebDAV).
 #![tactic(auto)]
+
+mod answering;
+mod propfind_fault;
+mod sight;
+
+pub use answering::propfind;
+pub use propfind_fault::PropfindFault;
+pub use sight::Sight;
