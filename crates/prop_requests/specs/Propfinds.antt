@@ -5,7 +5,11 @@ use Rattle.dav_names.specs.declared.resource.Resource.{Resource}
 use Rattle.dav_bodies.specs.declared.body.Wanted.{Wanted}
 use Rattle.dav_bodies.specs.declared.body.Wanted.TheVariants.{All, These}
 use Rattle.prop_values.specs.Subjects.{PropSources}
-use Rattle.prop_requests.specs.Multistatus.{propfind_text}
+use Rattle.dav_documents.specs.Written.{body_text}
+use Rattle.prop_values.specs.Places.{NodePlace}
+use Rattle.prop_requests.specs.declared.asked_as.AskedAs.{AskedAs}
+use Rattle.prop_requests.specs.Spots.{subject_as}
+use Rattle.prop_requests.specs.Multistatus.{multistatus_tree, asked_subjects, propfind_text}
 use Rattle.prop_requests.specs.declared.propfind_fault.PropfindFault.{PropfindFault}
 use Rattle.prop_requests.specs.declared.propfind_fault.PropfindFault.TheVariants.{NoNode, NoMemory}
 
@@ -23,6 +27,13 @@ names_in (These names) = Some names
 abbrev pub or_no_node : Option (List ℕ) → Result (List ℕ) PropfindFault
 or_no_node (Some text) = Ok text
 or_no_node None = Err NoNode
+
+-- what is answered about a node at its place, where there is one, that is asked about as this, and where they are asked
+-- too about its children, to who wants all properties, or those of these names
+abbrev pub about_place : PropSources → AskedAs → Bool → Option (List PropName) → Option NodePlace → Result (List ℕ) PropfindFault
+about_place sources asked children wanted None = Err NoNode
+about_place sources asked children wanted (Some place) =
+    Ok (body_text (multistatus_tree sources wanted (asked_subjects sources children (subject_as asked place))))
 
 -- the bytes of the answer about a resource, and where they are asked too its children, with the properties that are
 -- wanted; NoNode where the user is shown no such resource

@@ -3,8 +3,12 @@
 #![tactic(auto)]
 
 mod answering;
+mod asked_as;
+mod known_level;
 mod propfind_fault;
 mod sight;
+mod spot;
+mod telling;
 
 pub use answering::propfind;
 pub use propfind_fault::PropfindFault;

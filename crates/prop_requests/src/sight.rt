@@ -1,8 +1,13 @@
-ghost use Rattle.std.specs.Prelude.{◌≡◌};
+ghost use Rattle.std.specs.Prelude.{◌≡◌, ◌<◌, true, length};
 ghost use Rattle.std.specs.Option.{option_copied};
+ghost use Rattle.path_locks.specs.LockStates.{lock_at, shown_locks};
+ghost use Rattle.prop_requests.specs.Sights.{sees};
+ghost use Rattle.prop_requests.specs.Levels.{level_in};
 
 use authz_check::Policy;
-use path_locks::Locks;
+use dsv_base::{Path, Rev};
+use log_access::{Level, level_of};
+use path_locks::{Lock, Locks};
 use rev_trees::Trees;
 use std::marker::Model;
 
@@ -60,5 +65,42 @@ impl<'a> Sight<'a> {
             user,
             root,
         }
+    }
+
+    /// The trees.
+    pub(crate) fn trees(&self) -> &Trees
+        ensures { result.now ≡ self.now.trees }
+    {
+        self.trees
+    }
+
+    /// The path of the repository in targets.
+    pub(crate) fn root(&self) -> &[u8]
+        ensures { result.now ≡ self.now.root }
+    {
+        self.root
+    }
+
+    /// Whether the user may read the path.
+    pub(crate) fn can_read(&self, path: &Path) -> bool
+        ensures { result ≡ sees self.now path.now }
+    {
+        self.policy.can_read(self.user, path)
+    }
+
+    /// The level at which the user is shown the record of a revision.
+    pub(crate) fn level_of(&self, rev: Rev) -> Level
+        requires { rev < length self.now.trees.revisions }
+        ensures { result ≡ level_in self.now rev }
+    {
+        level_of(self.policy, self.user, self.trees.changed(rev))
+    }
+
+    /// The lock on a path that the user may read.
+    pub(crate) fn lock_at(&self, path: &Path) -> Option<&Lock>
+        requires { sees self.now path.now ≡ true }
+        ensures { option_copied result ≡ lock_at path.now (shown_locks (sees self.now) self.now.locks) }
+    {
+        self.locks.at(path)
     }
 }
