@@ -29,19 +29,19 @@ use Rattle.prop_requests.specs.declared.asked_as.AskedAs.{AskedAs}
 use Rattle.prop_requests.specs.declared.asked_as.AskedAs.TheVariants.{Youngest, Named}
 use Rattle.prop_requests.specs.Sights.{SightState, sees, sources_of, sources_by}
 use Rattle.prop_requests.specs.Spots.{SpotState, subject_as, subject_at}
-use Rattle.prop_requests.specs.Entered.{spot_in, entry_subject, entry_subjects, IsEntered, CanBeTold}
+use Rattle.prop_requests.specs.Entered.{spot_in, spot_subject, entry_subject, entry_subjects, IsEntered, CanBeTold}
 
 -- ---- the revision of a node's last change is there
 
 created_in : (places : List (List ℕ × Numbered)) (rev : ℕ) (path : List ℕ) (p : Numbered) → All (HasSoundNode rev) (tree_of places) → find (slice_cmp nat_cmp) path places ≡ Some p → p.here.node.created ≤ rev
 created_in [] rev path p sound found = absurd (cc)
-created_in (q ∷ qs) rev path p sound found = by (eq_by_cmp (slice_cmp nat_cmp) path q.0) found
+created_in (q ∷ qs) rev path p sound found = by (eq_by_cmp (slice_cmp nat_cmp) path q.0) found (λ later. created_in qs rev path p (All-tail (HasSoundNode rev) (q.0, q.1.here) (tree_of qs) sound) later)
   where
-    by : (b : Bool) → cond b (Some q.1) (find (slice_cmp nat_cmp) path qs) ≡ Some p → p.here.node.created ≤ rev
-    by true here =
+    by : (b : Bool) → cond b (Some q.1) (find (slice_cmp nat_cmp) path qs) ≡ Some p → (find (slice_cmp nat_cmp) path qs ≡ Some p → p.here.node.created ≤ rev) → p.here.node.created ≤ rev
+    by true here behind =
         let same : q.1 ≡ p = cc in
         subst (λ (n : Numbered). n.here.node.created ≤ rev) same (All-head (HasSoundNode rev) (q.0, q.1.here) (tree_of qs) sound).created
-    by false later = created_in qs rev path p (All-tail (HasSoundNode rev) (q.0, q.1.here) (tree_of qs) sound) later
+    by false later behind = behind later
 
 there_at : (revisions : List ForestRevision) (rev : ℕ) (path : List ℕ) (p : Numbered) → find (slice_cmp nat_cmp) path (get_or revisions rev no_revision).places ≡ Some p → rev < length revisions
 there_at [] rev path p found = absurd (cc)
@@ -165,14 +165,18 @@ module _ (sight : SightState) (spot : SpotState) where
       ∙ shown_children (places_at sight.trees spot.rev) (sound.places spot.rev)
       ∙ ap (entry_subjects sight spot) (sym are)
 
--- an entry whose path may be read, by the node of its number
-pub entry_told : (sight : SightState) (spot : SpotState) (entry : Entry) (node : Node) → IsEntered sight spot entry → sees sight (join_text spot.path entry.name) ≡ true → IsNodeOf sight.trees entry.id node → entry_subject sight spot entry ≡ Some (subject_at (spot_in spot entry) node)
-entry_told sight spot entry node entered readable is =
-    let path = join_text spot.path entry.name in
-    let place = place_with sight.trees spot.rev path node (is spot.rev path entered.id_is) in
-    ap (λ (b : Bool). if b then option_map (λ (p : Numbered). subject_at (spot_in spot entry) p.here.node) (place_at sight.trees spot.rev path) else None) readable
-    ∙ ap (option_map (λ (p : Numbered). subject_at (spot_in spot entry) p.here.node)) place.1
-    ∙ ap (λ (n : Node). Some (subject_at (spot_in spot entry) n)) place.2
+-- what is told of at a readable spot, by the node of the number that stands there
+pub spot_told : (sight : SightState) (spot : SpotState) (id : ℕ) (node : Node) (trees : Forest) → trees ≡ sight.trees → id_at sight.trees spot.rev spot.path ≡ Some id → sees sight spot.path ≡ true → IsNodeOf trees id node → spot_subject sight spot ≡ Some (subject_at spot node)
+spot_told sight spot id node trees same number readable is =
+    let found : node_at sight.trees spot.rev spot.path ≡ Some node = subst (λ (f : Forest). IsNodeOf f id node) same is spot.rev spot.path number in
+    let place = place_with sight.trees spot.rev spot.path node found in
+    ap (λ (b : Bool). if b then option_map (λ (p : Numbered). subject_at spot p.here.node) (place_at sight.trees spot.rev spot.path) else None) readable
+    ∙ ap (option_map (λ (p : Numbered). subject_at spot p.here.node)) place.1
+    ∙ ap (λ (n : Node). Some (subject_at spot n)) place.2
+
+-- the answer about the one that is told of
+pub one_answer : {X : Type 0} (item : X → Written) (o : Option X) (x : X) (d : Draft) → o ≡ Some x → with_elements (item x) d ≡ with_elements (for_each item (option_to_list o)) d
+one_answer {X} item o x d is = sym (with_elements_joined (item x) Nothing d) ∙ ap (λ (o : Option X). with_elements (for_each item (option_to_list o)) d) (sym is)
 
 -- the answers about the next entry, if it is told of, and then about the others
 pub next_answers : {X : Type 0} (item : X → Written) (o : Option X) (xs : List X) (d : Draft) → with_elements (for_each item (cons_option o xs)) d ≡ with_elements (for_each item xs) (with_elements (for_each item (option_to_list o)) d)

@@ -1,8 +1,10 @@
 -- What is told of a subject, by what the trees have of it.
-use Rattle.std.proofs.Common.{◌≡◌, ◌<◌, ℕ, zero, suc, Bool, true, cond, List, [], ◌∷◌, Option, None, Some, length, map, get_or, refl, sym, ap, ◌∙◌, arith}
-use Rattle.std.specs.Prelude.{if◌then◌else◌}
+use Rattle.std.proofs.Common.{Ordering, Less, Equal, Greater, subst, ◌≡◌, ◌<◌, ℕ, zero, suc, Bool, true, cond, List, [], ◌∷◌, Option, None, Some, length, map, get_or, refl, sym, ap, ◌∙◌, arith}
+use Rattle.std.specs.Prelude.{slice_index_or, if◌then◌else◌}
+use Rattle.std.specs.BTreeMap.{insert_entry}
+use Rattle.std.specs.List.{IsAmong}
 use Rattle.std.specs.FinMap.Entries.{find-where_key}
-use Rattle.std.specs.Ordering.{nat_cmp}
+use Rattle.std.specs.Ordering.{match_ordering, nat_cmp}
 use Rattle.std.specs.Cmp.Lexicographic.{slice_cmp}
 use Rattle.std.proofs.lemmas.Map.Lookups.{exact_bytes}
 use Rattle.rev_nodes.specs.declared.commit.Commit.{Commit}
@@ -19,7 +21,8 @@ use Rattle.prop_values.specs.Subjects.{told_revision, told_lock, told_of}
 use Rattle.prop_values.specs.declared.subject.Subject.{Subject}
 use Rattle.prop_values.specs.declared.subject.Subject.TheVariants.{YoungestNode, RevisionNode, WholeRevision}
 use Rattle.prop_requests.specs.Sights.{SightState, sees, sources_of, sources_by}
-use Rattle.prop_requests.specs.Levels.{level_in}
+use Rattle.prop_requests.specs.Levels.{level_in, IsKnown, AreKnown}
+use Rattle.prop_requests.specs.declared.known_level.KnownLevel.{KnownLevel}
 use Rattle.prop_requests.specs.Entered.{CanBeTold}
 
 -- the lock on a readable path is shown
@@ -66,3 +69,28 @@ told_is sight subject level commit told can level_is commit_is root_is uuid_is l
       author = (author_is ∙ ap (λ (c : Commit). if shows_author level then some_author c.author else None) commit_is ∙ ap (λ (r : ShownRecord). r.author) shown) i;
       moment = (moment_is ∙ ap (λ (c : Commit). if shows_author level then Some c.moment else None) commit_is ∙ ap (λ (r : ShownRecord). r.moment) shown) i;
     }
+
+-- ---- levels that are known
+
+-- a level that a map has is that of its revision
+pub known_among : {K : Type 0} (sight : SightState) (es : List (K × KnownLevel)) (known : KnownLevel) → AreKnown sight es → IsAmong (map (λ (e : K × KnownLevel). e.1) es) known → IsKnown sight known
+known_among sight [] known all among = absurd (let h = among.1.0 in omega (arith, h))
+known_among {K} sight (e ∷ es) known all among = at among.0 among.1.0 among.1.1 (λ among. known_among sight es known all.1 among)
+  where
+    at : (i : ℕ) → i < length (e.1 ∷ map (λ (e : K × KnownLevel). e.1) es) → known ≡ slice_index_or (e.1 ∷ map (λ (e : K × KnownLevel). e.1) es) i known → (IsAmong (map (λ (e : K × KnownLevel). e.1) es) known → IsKnown sight known) → IsKnown sight known
+    at zero there is behind = subst (λ (k : KnownLevel). IsKnown sight k) (sym is) all.0
+    at (suc i) there is behind = behind (i, (omega (arith, there), is))
+
+-- one more is known
+pub known_put : {K : Type 0} (cmp : K → K → Ordering) (sight : SightState) (es : List (K × KnownLevel)) (key : K) (known : KnownLevel) → AreKnown sight es → IsKnown sight known → AreKnown sight (insert_entry cmp es key known)
+known_put cmp sight [] key known all is = (is, tt)
+known_put {K} cmp sight (e ∷ es) key known all is = by (cmp key e.0) (known_put cmp sight es key known all.1 is)
+  where
+    by : (o : Ordering) → AreKnown sight (insert_entry cmp es key known) → AreKnown sight (match_ordering o ((key, known) ∷ e ∷ es) ((e.0, known) ∷ es) (e ∷ insert_entry cmp es key known))
+    by Less rest = (is, all)
+    by Equal rest = (is, all.1)
+    by Greater rest = (all.0, rest)
+
+-- a map with one more level
+pub known_more : {K : Type 0} (cmp : K → K → Ordering) (sight : SightState) (es new : List (K × KnownLevel)) (key : K) (known : KnownLevel) → new ≡ insert_entry cmp es key known → AreKnown sight es → IsKnown sight known → AreKnown sight new
+known_more {K} cmp sight es new key known is all one = subst (λ (es : List (K × KnownLevel)). AreKnown sight es) (sym is) (known_put cmp sight es key known all one)

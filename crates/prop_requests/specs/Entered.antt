@@ -16,12 +16,16 @@ abbrev pub spot_in : SpotState → Entry → SpotState
 spot_in directory entry =
     record { asked = directory.asked; rev = directory.rev; path = join_text directory.path entry.name }
 
+-- what stands at a spot as what has properties, where the user may read its path
+abbrev pub spot_subject : SightState → SpotState → Option Subject
+spot_subject sight spot =
+    if sees sight spot.path
+    then option_map (λ place. subject_at spot place.here.node) (place_at sight.trees spot.rev spot.path)
+    else None
+
 -- an entry of a directory as what has properties, where the user may read its path
 abbrev pub entry_subject : SightState → SpotState → Entry → Option Subject
-entry_subject sight directory entry =
-    if sees sight (join_text directory.path entry.name)
-    then option_map (λ place. subject_at (spot_in directory entry) place.here.node) (place_at sight.trees directory.rev (join_text directory.path entry.name))
-    else None
+entry_subject sight directory entry = spot_subject sight (spot_in directory entry)
 
 -- the entries of a directory that the user may read, as what has properties
 abbrev pub entry_subjects : SightState → SpotState → List Entry → List Subject

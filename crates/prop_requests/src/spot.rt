@@ -31,6 +31,13 @@ impl<'a> Spot<'a> {
         Spot { asked, rev, path }
     }
 
+    /// Another path of the same revision, asked about as the same.
+    pub(crate) fn at<'b>(&self, path: &'b Path) -> Spot<'b>
+        ensures { result ≡ record { asked = self.now.asked; rev = self.now.rev; path = path.now } }
+    {
+        Spot::of(self.asked, self.rev, path)
+    }
+
     /// The node that stands there, as what has properties.
     pub(crate) fn subject(&self, node: &'a Node) -> Subject<'a>
         ensures { result ≡ subject_at self.now node.now }

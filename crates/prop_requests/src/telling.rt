@@ -2,7 +2,7 @@ ghost use Rattle.std.specs.Prelude.{◌≡◌, ◌<◌, ◌∷◌, IfOk, IfSome,
 ghost use Rattle.std.specs.List.{All};
 ghost use Rattle.std.specs.Option.{option_copied};
 ghost use Rattle.dsv_base.specs.Paths.{is_path, join_text};
-ghost use Rattle.rev_nodes.specs.Forests.{IsId, IsNodeOf};
+ghost use Rattle.rev_nodes.specs.Forests.{id_at, IsId, IsNodeOf};
 ghost use Rattle.log_access.specs.Levels.{shows_props, shows_author};
 ghost use Rattle.log_access.specs.Records.{some_author};
 ghost use Rattle.dav_documents.specs.Drafts.{started, with_attributes, with_elements};
@@ -14,7 +14,7 @@ ghost use Rattle.prop_values.specs.declared.subject.Subject.TheVariants.{WholeRe
 ghost use Rattle.prop_requests.specs.Sights.{sources_by};
 ghost use Rattle.prop_requests.specs.Multistatus.{multistatus_tree};
 ghost use Rattle.prop_requests.specs.Levels.{level_in};
-ghost use Rattle.prop_requests.specs.Entered.{entry_subject, entry_subjects, IsEntered, CanBeTold};
+ghost use Rattle.prop_requests.specs.Entered.{spot_subject, entry_subject, entry_subjects, IsEntered, CanBeTold};
 
 use crate::known_level::KnownLevel;
 use crate::sight::Sight;
@@ -64,6 +64,13 @@ impl<'a> Telling<'a> {
         }
     }
 
+    /// What the user sees.
+    fn sight(&self) -> &'a Sight<'a>
+        ensures { result.now ≡ self.now.sight }
+    {
+        self.sight
+    }
+
     /// The level at which the user is shown the record of a revision, and it is known from then on.
     fn level_of(&mut self, rev: Rev) -> Result<Level, NoMemory>
         requires { rev < length self.old.sight.trees.revisions }
@@ -97,12 +104,32 @@ impl<'a> Telling<'a> {
             (response_element (sources_by self.old.sight) self.old.wanted subject.now) writer.old) }
     {
         let level = self.level_of(told_revision(subject))?;
-        let told = told_of(self.sight, level, subject);
+        let told = told_of(self.sight(), level, subject);
         write_response(self.alloc, writer, &told, self.query, subject)
     }
 
+    /// Writes the answer about the node of this number, which stands at the spot, where the user may read
+    /// the path.
+    fn write_spot(
+        &mut self,
+        writer: &mut Writer,
+        spot: &Spot<'_>,
+        id: NodeId,
+    ) -> Result<(), NoMemory>
+        requires { id_at self.old.sight.trees spot.now.rev spot.now.path ≡ Some id }
+        ensures kept { self.new ≡ self.old }
+        ensures written { OnOk result (writer.new ≡ with_elements
+            (for_each (response_element (sources_by self.old.sight) self.old.wanted)
+            (option_to_list (spot_subject self.old.sight spot.now))) writer.old) }
+    {
+        if !self.sight().can_read(spot.path) {
+            return Ok(());
+        }
+        let node = node_of(self.sight().trees(), id);
+        self.write(writer, &spot.subject(node))
+    }
+
     /// Writes the answer about what an entry of the directory names, where the user may read its path.
-    #[tactic(auto, using(crate::proofs::Entering::entry_told))]
     fn write_entry(
         &mut self,
         writer: &mut Writer,
@@ -115,13 +142,8 @@ impl<'a> Telling<'a> {
             (for_each (response_element (sources_by self.old.sight) self.old.wanted)
             (option_to_list (entry_subject self.old.sight directory.now entry.now))) writer.old) }
     {
-        let path = child_path(directory.path, entry.name.get())?;
-        if !self.sight.can_read(&path) {
-            return Ok(());
-        }
-        let node = node_of(self.sight.trees(), entry.id);
-        let subject = Spot::of(directory.asked, directory.rev, &path).subject(node);
-        self.write(writer, &subject)
+        let path = entry_path(directory, entry)?;
+        self.write_spot(writer, &directory.at(&path), entry.id)
     }
 
     /// Writes the answers about what the entries of the directory name.
@@ -201,7 +223,6 @@ fn start_root(writer: &mut Writer) -> Result<(), NoMemory>
 }
 
 /// The node of this number, which was changed last in a revision that is there.
-#[tactic(auto, using(crate::proofs::Entering::created_there))]
 pub(crate) fn node_of(trees: &Trees, id: NodeId) -> &Node
     requires { IsId trees.now id }
     ensures is { IsNodeOf trees.now id result.now }
@@ -212,11 +233,11 @@ pub(crate) fn node_of(trees: &Trees, id: NodeId) -> &Node
 }
 
 /// The path of an entry of the directory, which is one.
-fn child_path(directory: &Path, name: &[u8]) -> Result<Path, NoMemory>
-    requires { IsTrue (is_path (join_text directory.now name.now)) }
-    ensures { IfOk result (λ path. path ≡ join_text directory.now name.now) }
+fn entry_path(directory: &Spot<'_>, entry: &Entry) -> Result<Path, NoMemory>
+    requires { IsTrue (is_path (join_text directory.now.path entry.now.name)) }
+    ensures { IfOk result (λ path. path ≡ join_text directory.now.path entry.now.name) }
 {
-    match directory.join(name) {
+    match directory.path.join(entry.name.get()) {
         Ok(path) => Ok(path),
         Err(PathFault::BadPath) => unreachable!(),
         Err(PathFault::NoMemory) => Err(NoMemory),
@@ -241,6 +262,7 @@ fn told_of<'t>(sight: &'t Sight<'_>, level: Level, subject: &Subject<'_>) -> Tol
 }
 
 /// The lock on a node of the youngest revision.
+#[tactic(auto, unfolding(crate::specs::Sights::sources_of))]
 fn told_lock<'t>(sight: &'t Sight<'_>, subject: &Subject<'_>) -> Option<&'t Lock>
     requires { CanBeTold sight.now subject.now }
     ensures { option_copied result ≡ told_lock (sources_by sight.now) subject.now }
