@@ -1,5 +1,5 @@
 -- The nodes that are told of, by what the trees have.
-use Rattle.std.proofs.Common.{◌≡◌, ◌<◌, ◌≤◌, ℕ, zero, suc, Bool, true, false, cond, List, [], ◌∷◌, Option, None, Some, length, map, get_or, refl, sym, ap, ◌∙◌, subst, arith}
+use Rattle.std.proofs.Common.{◌≡◌, ◌<◌, ◌≤◌, ◌+◌, Ok, Err, ℕ, zero, suc, Bool, true, false, cond, List, [], ◌∷◌, Option, None, Some, length, map, get_or, refl, sym, ap, ◌∙◌, subst, arith}
 use Rattle.std.specs.Prelude.{filter, if◌then◌else◌, option_to_list}
 use Rattle.std.specs.List.{All, filter_map, cons_option}
 use Rattle.std.specs.Option.{option_map, option_map_or}
@@ -7,29 +7,40 @@ use Rattle.std.specs.Str.{bytes_eq}
 use Rattle.std.specs.FinMap.{find}
 use Rattle.std.specs.Ordering.{nat_cmp, eq_by_cmp}
 use Rattle.std.specs.Cmp.Lexicographic.{slice_cmp}
-use Rattle.std.proofs.lemmas.List.Elements.{All-cons, All-head, All-tail}
+use Rattle.std.proofs.lemmas.List.Elements.{All-nil, All-cons, All-head, All-tail}
 use Rattle.std.proofs.lemmas.Slice.Eq.{bytes_eq-Decides}
 use Rattle.dsv_base.specs.Paths.{is_path, parent_text, name_of, join_text}
 use Rattle.dsv_base.proofs.Joins.{join_parent}
-use Rattle.dav_documents.specs.Written.{Written, Nothing, for_each}
+use Rattle.dsv_base.specs.declared.prop_name.PropName.{PropName}
+use Rattle.dsv_base.specs.declared.txn_name.TxnName.{TxnName}
+use Rattle.dav_names.specs.declared.resource.Resource.{Resource}
+use Rattle.prop_values.specs.Responses.{response_element}
+use Rattle.prop_requests.specs.Levels.{TellingState}
+use Rattle.dav_names.specs.declared.resource.Resource.TheVariants.{Public, Me, Rvr, RevOnly, Txr, Txn}
+use Rattle.prop_values.specs.declared.subject.Subject.TheVariants.{WholeRevision}
+use Rattle.prop_requests.specs.declared.propfind_fault.PropfindFault.TheVariants.{NoNode}
+use Rattle.prop_requests.specs.Multistatus.{multistatus_tree, asked_subjects, propfind_text}
+use Rattle.prop_requests.specs.Propfinds.{or_no_node, about_place}
+use Rattle.dav_documents.specs.Written.{Written, Nothing, for_each, body_text}
 use Rattle.dav_documents.specs.Drafts.{Draft, with_elements}
 use Rattle.dav_documents.proofs.Trees.{with_elements_joined}
+use Rattle.std.proofs.lemmas.List.{length-map}
 use Rattle.rev_nodes.specs.declared.entry.Entry.{Entry}
 use Rattle.rev_nodes.specs.declared.node.Node.{Node}
 use Rattle.rev_nodes.specs.Trees.{TreeNode, Tree}
-use Rattle.rev_nodes.specs.Forests.{Numbered, ForestRevision, Forest, no_revision, repository_of, tree_of, places_at, place_at, id_at, node_at, IsId, IsNodeOf}
-use Rattle.rev_nodes.specs.Entries.{is_child, entry_in, entries_in, IsSoundPlace, IsSound}
+use Rattle.rev_nodes.specs.Forests.{Numbered, ForestRevision, Forest, no_revision, without_numbers, repository_of, tree_of, places_at, place_at, id_at, node_at, IsId, IsNodeOf}
+use Rattle.rev_nodes.specs.Entries.{AreEntriesOf, is_child, entry_in, entries_in, IsSoundPlace, IsSound}
 use Rattle.rev_nodes.specs.SoundNodes.{HasSoundNode, AreSoundNodes}
 use Rattle.log_access.specs.Shown.{shown_node, shown_nodes, shown_of, nodes_in, node_in}
 use Rattle.log_access.proofs.ShownNodes.{nodes_in-shown, node_in-shown, nothing_at, place_with}
 use Rattle.prop_values.specs.Places.{NodePlace}
-use Rattle.prop_values.specs.Subjects.{PropSources, found_place, place_in, child_place, child_places, children_of}
+use Rattle.prop_values.specs.Subjects.{PropSources, found_place, place_in, child_place, child_places, subject_of, children_of}
 use Rattle.prop_values.specs.declared.subject.Subject.{Subject}
 use Rattle.prop_requests.specs.declared.asked_as.AskedAs.{AskedAs}
 use Rattle.prop_requests.specs.declared.asked_as.AskedAs.TheVariants.{Youngest, Named}
 use Rattle.prop_requests.specs.Sights.{SightState, sees, sources_of, sources_by}
 use Rattle.prop_requests.specs.Spots.{SpotState, subject_as, subject_at}
-use Rattle.prop_requests.specs.Entered.{spot_in, spot_subject, entry_subject, entry_subjects, IsEntered, CanBeTold}
+use Rattle.prop_requests.specs.Entered.{spot_in, spot_subject, entry_subject, entry_subjects, IsEntered, AreAskedEntries, CanBeTold}
 
 -- ---- the revision of a node's last change is there
 
@@ -182,3 +193,109 @@ one_answer {X} item o x d is = sym (with_elements_joined (item x) Nothing d) ∙
 pub next_answers : {X : Type 0} (item : X → Written) (o : Option X) (xs : List X) (d : Draft) → with_elements (for_each item (cons_option o xs)) d ≡ with_elements (for_each item xs) (with_elements (for_each item (option_to_list o)) d)
 next_answers item None xs d = refl
 next_answers item (Some x) xs d = with_elements_joined (item x) (for_each item xs) d ∙ ap (with_elements (for_each item xs)) (sym (with_elements_joined (item x) Nothing d))
+
+-- one entry more is answered
+pub entries_step : (self begun : TellingState) (directory : SpotState) (left rest : List Entry) (entry : Entry) (before after whole : Draft) → self ≡ begun → left ≡ (entry ∷ rest)
+    → after ≡ with_elements (for_each (response_element (sources_by self.sight) self.wanted) (option_to_list (entry_subject self.sight directory entry))) before
+    → with_elements (for_each (response_element (sources_by begun.sight) begun.wanted) (entry_subjects begun.sight directory left)) before ≡ whole
+    → with_elements (for_each (response_element (sources_by begun.sight) begun.wanted) (entry_subjects begun.sight directory rest)) after ≡ whole
+entries_step self begun directory left rest entry before after whole same next written so =
+    let item : Subject → Written = response_element (sources_by begun.sight) begun.wanted in
+    let others : List Subject = entry_subjects begun.sight directory rest in
+    ap (with_elements (for_each item others)) (written ∙ ap (λ (t : TellingState). with_elements (for_each (response_element (sources_by t.sight) t.wanted) (option_to_list (entry_subject t.sight directory entry))) before) same)
+    ∙ sym (next_answers item (entry_subject begun.sight directory entry) others before)
+    ∙ ap (λ (es : List Entry). with_elements (for_each item (entry_subjects begun.sight directory es)) before) (sym next)
+    ∙ so
+
+-- ---- answers
+
+-- what is asked stands in the node at the spot
+pub asked_enter : (sight : SightState) (spot : SpotState) (id : ℕ) (entries : List Entry) (children : Bool) (trees : Forest) → trees ≡ sight.trees → id_at sight.trees spot.rev spot.path ≡ Some id → IsSound trees → AreAskedEntries trees id children entries → All (IsEntered sight spot) entries
+asked_enter sight spot id entries true trees same number sound are =
+    entries_enter sight spot entries (subst (λ (f : Forest). IsSound f) same sound) (subst (λ (f : Forest). AreEntriesOf f id entries) same are spot.rev spot.path number)
+asked_enter sight spot id entries false trees same number sound are = subst (λ (es : List Entry). All (IsEntered sight spot) es) (sym are) (All-nil (IsEntered sight spot))
+
+-- the children that are asked too are those of the entries
+asked_children : (sight : SightState) (spot : SpotState) (id : ℕ) (node : Node) (entries : List Entry) (children : Bool) (trees : Forest) → trees ≡ sight.trees → id_at sight.trees spot.rev spot.path ≡ Some id → IsSound trees → AreAskedEntries trees id children entries
+    → asked_subjects (sources_by sight) children (subject_at spot node) ≡ (subject_at spot node ∷ entry_subjects sight spot entries)
+asked_children sight spot id node entries true trees same number sound are =
+    ap (λ (subjects : List Subject). subject_at spot node ∷ subjects) (children_are sight spot entries node (subst (λ (f : Forest). IsSound f) same sound) (subst (λ (f : Forest). AreEntriesOf f id entries) same are spot.rev spot.path number))
+asked_children sight spot id node entries false trees same number sound are =
+    ap (λ (es : List Entry). subject_at spot node ∷ entry_subjects sight spot es) (sym are)
+
+-- what is answered about the node of a number, by its entries
+pub node_answered : (sight : SightState) (spot : SpotState) (wanted : Option (List PropName)) (id : ℕ) (node : Node) (entries : List Entry) (children : Bool) (trees others : Forest) → trees ≡ sight.trees → others ≡ sight.trees
+    → sees sight spot.path ≡ true → id_at sight.trees spot.rev spot.path ≡ Some id → IsNodeOf trees id node → IsSound others → AreAskedEntries others id children entries
+    → about_place (sources_by sight) spot.asked children wanted (place_in (sources_by sight) spot.rev spot.path) ≡ Ok (body_text (multistatus_tree (sources_by sight) wanted (subject_at spot node ∷ entry_subjects sight spot entries)))
+node_answered sight spot wanted id node entries children trees others same so readable number is sound are =
+    ap (about_place (sources_by sight) spot.asked children wanted) (one_in sight spot.rev spot.path readable node (subst (λ (f : Forest). IsNodeOf f id node) same is spot.rev spot.path number))
+    ∙ ap (λ (subjects : List Subject). Ok (body_text (multistatus_tree (sources_by sight) wanted subjects))) (asked_children sight spot id node entries children others so number sound are)
+
+module _ (sources : PropSources) (children : Bool) (wanted : Option (List PropName)) where
+  of_place : (asked : AskedAs) (o : Option NodePlace) → or_no_node (option_map (λ (subject : Subject). body_text (multistatus_tree sources wanted (asked_subjects sources children subject))) (option_map (subject_as asked) o)) ≡ about_place sources asked children wanted o
+  of_place asked None = refl
+  of_place asked (Some place) = refl
+
+  -- a path of the youngest revision is answered by what stands there
+  pub public_is : (path : List ℕ) → about_place sources Youngest children wanted (place_in sources sources.youngest path) ≡ or_no_node (propfind_text sources (Public path) children wanted)
+  unfolding propfind_text subject_of
+  public_is path = sym (of_place Youngest (place_in sources sources.youngest path))
+
+  -- and so is one of a revision that is named
+  pub rvr_is : (rev : ℕ) (path : List ℕ) → about_place sources Named children wanted (place_in sources rev path) ≡ or_no_node (propfind_text sources (Rvr rev path) children wanted)
+  unfolding propfind_text subject_of
+  rvr_is rev path = sym (of_place Named (place_in sources rev path))
+
+  -- a revision is answered alone
+  pub revision_is : (rev : ℕ) → or_no_node (propfind_text sources (RevOnly rev) children wanted) ≡ Ok (body_text (multistatus_tree sources wanted (WholeRevision rev ∷ [])))
+  unfolding propfind_text subject_of children_of
+  revision_is rev = by children
+    where
+      by : (b : Bool) → or_no_node (Some (body_text (multistatus_tree sources wanted (WholeRevision rev ∷ (if b then [] else []))))) ≡ Ok (body_text (multistatus_tree sources wanted (WholeRevision rev ∷ [])))
+      by true = refl
+      by false = refl
+
+  -- other resources have no properties
+  pub me_is : or_no_node (propfind_text sources Me children wanted) ≡ Err NoNode
+  unfolding propfind_text subject_of
+  me_is = refl
+
+  pub txr_is : (name : TxnName) (path : List ℕ) → or_no_node (propfind_text sources (Txr name path) children wanted) ≡ Err NoNode
+  unfolding propfind_text subject_of
+  txr_is name path = refl
+
+  pub txn_is : (name : TxnName) → or_no_node (propfind_text sources (Txn name) children wanted) ≡ Err NoNode
+  unfolding propfind_text subject_of
+  txn_is name = refl
+
+-- the youngest revision that is shown is the youngest there is
+pub youngest_is : (sight : SightState) (rev : ℕ) → rev + 1 ≡ length sight.trees.revisions → rev ≡ (sources_by sight).youngest
+unfolding sources_of shown_of
+youngest_is sight rev next =
+    let same : length (map without_numbers sight.trees.revisions) ≡ length sight.trees.revisions = length-map sight.trees.revisions without_numbers in
+    omega (arith, next, same)
+
+-- what is answered at the spot of a path of the youngest revision
+pub public_at : (sight : SightState) (children : Bool) (wanted : Option (List PropName)) (spot : SpotState) (rev : ℕ) (path : List ℕ) (resource : Resource) → spot ≡ record { asked = Youngest; rev = rev; path = path } → rev + 1 ≡ length sight.trees.revisions → resource ≡ Public path
+    → about_place (sources_by sight) spot.asked children wanted (place_in (sources_by sight) spot.rev spot.path) ≡ or_no_node (propfind_text (sources_by sight) resource children wanted)
+public_at sight children wanted spot rev path resource spot_is next is =
+    ap (λ (s : SpotState). about_place (sources_by sight) s.asked children wanted (place_in (sources_by sight) s.rev s.path)) spot_is
+    ∙ ap (λ (r : ℕ). about_place (sources_by sight) Youngest children wanted (place_in (sources_by sight) r path)) (youngest_is sight rev next)
+    ∙ public_is (sources_by sight) children wanted path
+    ∙ ap (λ (r : Resource). or_no_node (propfind_text (sources_by sight) r children wanted)) (sym is)
+
+-- and at that of a path of a revision that is named
+pub rvr_at : (sight : SightState) (children : Bool) (wanted : Option (List PropName)) (spot : SpotState) (rev : ℕ) (path : List ℕ) (resource : Resource) → spot ≡ record { asked = Named; rev = rev; path = path } → resource ≡ Rvr rev path
+    → about_place (sources_by sight) spot.asked children wanted (place_in (sources_by sight) spot.rev spot.path) ≡ or_no_node (propfind_text (sources_by sight) resource children wanted)
+rvr_at sight children wanted spot rev path resource spot_is is =
+    ap (λ (s : SpotState). about_place (sources_by sight) s.asked children wanted (place_in (sources_by sight) s.rev s.path)) spot_is
+    ∙ rvr_is (sources_by sight) children wanted rev path
+    ∙ ap (λ (r : Resource). or_no_node (propfind_text (sources_by sight) r children wanted)) (sym is)
+
+-- and of a revision
+pub revision_at_once : (sight : SightState) (children : Bool) (wanted : Option (List PropName)) (rev : ℕ) (resource : Resource) (text : List ℕ) → resource ≡ RevOnly rev → text ≡ body_text (multistatus_tree (sources_by sight) wanted (WholeRevision rev ∷ []))
+    → or_no_node (propfind_text (sources_by sight) resource children wanted) ≡ Ok text
+revision_at_once sight children wanted rev resource text is written =
+    ap (λ (r : Resource). or_no_node (propfind_text (sources_by sight) r children wanted)) is
+    ∙ revision_is (sources_by sight) children wanted rev
+    ∙ ap (λ (t : List ℕ). Ok t) (sym written)

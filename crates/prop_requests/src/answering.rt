@@ -30,6 +30,7 @@ use std::alloc::Global;
 ///
 /// Of nodes, of the records of revisions and of locks nothing is told but what the user is shown.
 /// [`PropfindFault::NoNode`] comes exactly where the user is shown no such node.
+#[tactic(auto, unfolding(crate::specs::Propfinds::propfind_answer))]
 pub fn propfind(
     alloc: Global,
     sight: &Sight<'_>,
