@@ -14,24 +14,24 @@ use Rattle.prop_requests.specs.Sights.{sources_by, IsAskable}
 use Rattle.dav_machine.specs.declared.asked.Asked.{Asked}
 use Rattle.dav_machine.specs.declared.asked.Asked.TheVariants.{Options, Get, Head, Propfind}
 use Rattle.dav_machine.specs.Chains.{path_in, revision_in, aim_of}
-use Rattle.dav_machine.specs.Presents.{PresentState, sight_of, IsThere, MayRead, view_to}
+use Rattle.dav_machine.specs.Presents.{PresentState, sight_to, IsThere, MayRead, view_to}
 use Rattle.dav_machine.specs.ReadReplies.{sources_in, propfind_reply}
 
 module _ (present : PresentState) (user : Option (List ℕ)) where
   -- a view of the state has what the user sees of it
-  pub sources_shown : sources_by (sight_of present user) ≡ sources_in (view_to present user)
+  pub sources_shown : sources_by (sight_to present user) ≡ sources_in (view_to present user)
   unfolding shown_of
   sources_shown = refl
 
   -- an answer by what the user sees is one by the view
   pub propfind_shown : (resource : Resource) (children : Bool) (wanted : Wanted) (result : Result Reply Refusal)
-      → Gives refusal_no_memory result (propfind_reply (propfind_answer (sources_by (sight_of present user)) resource children wanted))
+      → Gives refusal_no_memory result (propfind_reply (propfind_answer (sources_by (sight_to present user)) resource children wanted))
       → Gives refusal_no_memory result (propfind_reply (propfind_answer (sources_in (view_to present user)) resource children wanted))
   propfind_shown resource children wanted result told =
       subst (λ (sources : PropSources). Gives refusal_no_memory result (propfind_reply (propfind_answer sources resource children wanted))) sources_shown told
 
   -- what may be read, of a revision that is there, can be asked about
-  askable : (resource : Resource) → MayRead present user (path_in resource) → IsThere (length present.trees.revisions) (revision_in resource) → IsAskable (sight_of present user) resource
+  askable : (resource : Resource) → MayRead present user (path_in resource) → IsThere (length present.trees.revisions) (revision_in resource) → IsAskable (sight_to present user) resource
   askable (Public path) readable there = readable
   askable Me readable there = tt
   askable (Rvr rev path) readable there = (there, readable)
@@ -40,7 +40,7 @@ module _ (present : PresentState) (user : Option (List ℕ)) where
   askable (Txn name) readable there = tt
 
   -- .. as the aim of what is asked for names both
-  pub aimed_askable : (asked : Asked) (resource : Resource) → MayRead present user (aim_of asked resource).path → IsThere (length present.trees.revisions) (aim_of asked resource).meant → IsAskable (sight_of present user) resource
+  pub aimed_askable : (asked : Asked) (resource : Resource) → MayRead present user (aim_of asked resource).path → IsThere (length present.trees.revisions) (aim_of asked resource).meant → IsAskable (sight_to present user) resource
   aimed_askable Options resource readable there = askable resource readable there
   aimed_askable Get resource readable there = askable resource readable there
   aimed_askable Head resource readable there = askable resource readable there

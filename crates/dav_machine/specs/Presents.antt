@@ -47,8 +47,8 @@ abbrev pub view_to : PresentState → Option (List ℕ) → View
 view_to present user = view_of (state_of present) user
 
 -- what a user sees, who asks about properties
-abbrev pub sight_of : PresentState → Option (List ℕ) → SightState
-sight_of present user = record {
+abbrev pub sight_to : PresentState → Option (List ℕ) → SightState
+sight_to present user = record {
   trees = present.trees;
   rules = present.rules;
   locks = present.locks;

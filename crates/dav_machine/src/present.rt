@@ -2,7 +2,7 @@ ghost use Rattle.std.specs.Prelude.{◌≡◌, IfOk};
 ghost use Rattle.std.specs.Option.{option_copied};
 ghost use Rattle.authz_check.specs.Access.{can_read};
 ghost use Rattle.dav_names.specs.Targets.{root_of};
-ghost use Rattle.dav_machine.specs.Presents.{present_of, sight_of};
+ghost use Rattle.dav_machine.specs.Presents.{present_of, sight_to};
 
 use authz_check::Policy;
 use dav_names::root_of;
@@ -65,7 +65,7 @@ impl Present {
 
     /// What a user sees, who asks about properties.
     pub fn sight<'a>(&'a self, user: Option<&'a [u8]>) -> Sight<'a>
-        ensures { result ≡ sight_of self.now (option_copied user.entry) }
+        ensures { result ≡ sight_to self.now (option_copied user.entry) }
     {
         Sight::of(
             &self.trees,

@@ -5,7 +5,7 @@ ghost use Rattle.dav_replies.specs.Faults.{refusal_no_memory};
 ghost use Rattle.dav_replies.specs.Replies.{IsWritable};
 ghost use Rattle.prop_requests.specs.Propfinds.{propfind_answer};
 ghost use Rattle.prop_requests.specs.Sights.{sources_by, IsAskable};
-ghost use Rattle.dav_machine.specs.Presents.{sight_of};
+ghost use Rattle.dav_machine.specs.Presents.{sight_to};
 ghost use Rattle.dav_machine.specs.ReadReplies.{propfind_reply};
 
 use crate::present::Present;
@@ -26,9 +26,9 @@ pub fn propfind_reply(
     children: bool,
     wanted: &Wanted,
 ) -> Result<Reply, Refusal>
-    requires askable { IsAskable (sight_of present.now (option_copied user)) resource.now }
+    requires askable { IsAskable (sight_to present.now (option_copied user)) resource.now }
     ensures value { Gives refusal_no_memory result
-        (propfind_reply (propfind_answer (sources_by (sight_of present.now (option_copied user.entry)))
+        (propfind_reply (propfind_answer (sources_by (sight_to present.now (option_copied user.entry)))
         resource.now children wanted.now)) }
     ensures writable { IfOk result IsWritable }
 {

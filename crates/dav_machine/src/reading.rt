@@ -6,7 +6,7 @@ ghost use Rattle.dav_replies.specs.Faults.{refusal_no_memory};
 ghost use Rattle.dav_replies.specs.Replies.{IsWritable};
 ghost use Rattle.dav_machine.specs.Chains.{aim_of, permit_of};
 ghost use Rattle.prop_requests.specs.Sights.{IsAskable};
-ghost use Rattle.dav_machine.specs.Presents.{root_in, may_read, sight_of, IsThere, MayRead, shown_to, view_to};
+ghost use Rattle.dav_machine.specs.Presents.{root_in, may_read, sight_to, IsThere, MayRead, shown_to, view_to};
 ghost use Rattle.dav_machine.specs.Replies.{options_reply};
 ghost use Rattle.dav_machine.specs.ReadReplies.{read_answer, asked_reply, content_at, get_reply, by_revisions};
 
@@ -77,7 +77,7 @@ fn asked_reply(
 ) -> Result<Reply, Refusal>
     requires readable { MayRead present.now (option_copied user) (option_copied path) }
     requires there { rev < length present.now.trees.revisions }
-    requires askable { IsAskable (sight_of present.now (option_copied user)) resource.now }
+    requires askable { IsAskable (sight_to present.now (option_copied user)) resource.now }
     ensures value { Gives refusal_no_memory result
         (asked_reply (view_to present.now (option_copied user.entry))
         asked.now resource.now rev (option_copied path.entry)) }

@@ -20,7 +20,7 @@ use Rattle.dav_names.specs.declared.resource.Resource.TheVariants.{Public, Me, R
 use Rattle.prop_values.specs.declared.subject.Subject.TheVariants.{WholeRevision}
 use Rattle.prop_requests.specs.declared.propfind_fault.PropfindFault.TheVariants.{NoNode}
 use Rattle.prop_requests.specs.Multistatus.{multistatus_tree, asked_subjects, propfind_text}
-use Rattle.prop_requests.specs.Propfinds.{or_no_node, about_place}
+use Rattle.prop_requests.specs.Propfinds.{or_no_such_node, about_place}
 use Rattle.dav_documents.specs.Written.{Written, Nothing, for_each, body_text}
 use Rattle.dav_documents.specs.Drafts.{Draft, with_elements}
 use Rattle.dav_documents.proofs.Trees.{with_elements_joined}
@@ -28,10 +28,10 @@ use Rattle.std.proofs.lemmas.List.{length-map}
 use Rattle.rev_nodes.specs.declared.entry.Entry.{Entry}
 use Rattle.rev_nodes.specs.declared.node.Node.{Node}
 use Rattle.rev_nodes.specs.Trees.{TreeNode, Tree}
-use Rattle.rev_nodes.specs.Forests.{Numbered, ForestRevision, Forest, no_revision, without_numbers, repository_of, tree_of, places_at, place_at, id_at, node_at, IsId, IsNodeOf}
+use Rattle.rev_nodes.specs.Forests.{Numbered, ForestRevision, Forest, no_revision, without_numbers, tree_of, places_at, place_at, id_at, node_at, IsId, IsNodeOf}
 use Rattle.rev_nodes.specs.Entries.{AreEntriesOf, is_child, entry_in, entries_in, IsSoundPlace, IsSound}
 use Rattle.rev_nodes.specs.SoundNodes.{HasSoundNode, AreSoundNodes}
-use Rattle.log_access.specs.Shown.{shown_node, shown_nodes, shown_of, nodes_in, node_in}
+use Rattle.log_access.specs.Shown.{shown_node, shown_nodes, shown_of}
 use Rattle.log_access.proofs.ShownNodes.{nodes_in-shown, node_in-shown, nothing_at, place_with}
 use Rattle.prop_values.specs.Places.{NodePlace}
 use Rattle.prop_values.specs.Subjects.{PropSources, found_place, place_in, child_place, child_places, subject_of, children_of}
@@ -40,7 +40,7 @@ use Rattle.prop_requests.specs.declared.asked_as.AskedAs.{AskedAs}
 use Rattle.prop_requests.specs.declared.asked_as.AskedAs.TheVariants.{Youngest, Named}
 use Rattle.prop_requests.specs.Sights.{SightState, sees, sources_of, sources_by}
 use Rattle.prop_requests.specs.Spots.{SpotState, subject_as, subject_at}
-use Rattle.prop_requests.specs.Entered.{spot_in, spot_subject, entry_subject, entry_subjects, IsEntered, AreAskedEntries, CanBeTold}
+use Rattle.prop_requests.specs.Entered.{spot_subject, entry_subject, entry_subjects, IsEntered, AreAskedEntries, CanBeTold}
 
 -- ---- the revision of a node's last change is there
 
@@ -232,39 +232,39 @@ node_answered sight spot wanted id node entries children trees others same so re
     ∙ ap (λ (subjects : List Subject). Ok (body_text (multistatus_tree (sources_by sight) wanted subjects))) (asked_children sight spot id node entries children others so number sound are)
 
 module _ (sources : PropSources) (children : Bool) (wanted : Option (List PropName)) where
-  of_place : (asked : AskedAs) (o : Option NodePlace) → or_no_node (option_map (λ (subject : Subject). body_text (multistatus_tree sources wanted (asked_subjects sources children subject))) (option_map (subject_as asked) o)) ≡ about_place sources asked children wanted o
+  of_place : (asked : AskedAs) (o : Option NodePlace) → or_no_such_node (option_map (λ (subject : Subject). body_text (multistatus_tree sources wanted (asked_subjects sources children subject))) (option_map (subject_as asked) o)) ≡ about_place sources asked children wanted o
   of_place asked None = refl
   of_place asked (Some place) = refl
 
   -- a path of the youngest revision is answered by what stands there
-  pub public_is : (path : List ℕ) → about_place sources Youngest children wanted (place_in sources sources.youngest path) ≡ or_no_node (propfind_text sources (Public path) children wanted)
+  pub public_is : (path : List ℕ) → about_place sources Youngest children wanted (place_in sources sources.youngest path) ≡ or_no_such_node (propfind_text sources (Public path) children wanted)
   unfolding propfind_text subject_of
   public_is path = sym (of_place Youngest (place_in sources sources.youngest path))
 
   -- and so is one of a revision that is named
-  pub rvr_is : (rev : ℕ) (path : List ℕ) → about_place sources Named children wanted (place_in sources rev path) ≡ or_no_node (propfind_text sources (Rvr rev path) children wanted)
+  pub rvr_is : (rev : ℕ) (path : List ℕ) → about_place sources Named children wanted (place_in sources rev path) ≡ or_no_such_node (propfind_text sources (Rvr rev path) children wanted)
   unfolding propfind_text subject_of
   rvr_is rev path = sym (of_place Named (place_in sources rev path))
 
   -- a revision is answered alone
-  pub revision_is : (rev : ℕ) → or_no_node (propfind_text sources (RevOnly rev) children wanted) ≡ Ok (body_text (multistatus_tree sources wanted (WholeRevision rev ∷ [])))
+  pub revision_is : (rev : ℕ) → or_no_such_node (propfind_text sources (RevOnly rev) children wanted) ≡ Ok (body_text (multistatus_tree sources wanted (WholeRevision rev ∷ [])))
   unfolding propfind_text subject_of children_of
   revision_is rev = by children
     where
-      by : (b : Bool) → or_no_node (Some (body_text (multistatus_tree sources wanted (WholeRevision rev ∷ (if b then [] else []))))) ≡ Ok (body_text (multistatus_tree sources wanted (WholeRevision rev ∷ [])))
+      by : (b : Bool) → or_no_such_node (Some (body_text (multistatus_tree sources wanted (WholeRevision rev ∷ (if b then [] else []))))) ≡ Ok (body_text (multistatus_tree sources wanted (WholeRevision rev ∷ [])))
       by true = refl
       by false = refl
 
   -- other resources have no properties
-  pub me_is : or_no_node (propfind_text sources Me children wanted) ≡ Err NoNode
+  pub me_is : or_no_such_node (propfind_text sources Me children wanted) ≡ Err NoNode
   unfolding propfind_text subject_of
   me_is = refl
 
-  pub txr_is : (name : TxnName) (path : List ℕ) → or_no_node (propfind_text sources (Txr name path) children wanted) ≡ Err NoNode
+  pub txr_is : (name : TxnName) (path : List ℕ) → or_no_such_node (propfind_text sources (Txr name path) children wanted) ≡ Err NoNode
   unfolding propfind_text subject_of
   txr_is name path = refl
 
-  pub txn_is : (name : TxnName) → or_no_node (propfind_text sources (Txn name) children wanted) ≡ Err NoNode
+  pub txn_is : (name : TxnName) → or_no_such_node (propfind_text sources (Txn name) children wanted) ≡ Err NoNode
   unfolding propfind_text subject_of
   txn_is name = refl
 
@@ -277,25 +277,25 @@ youngest_is sight rev next =
 
 -- what is answered at the spot of a path of the youngest revision
 pub public_at : (sight : SightState) (children : Bool) (wanted : Option (List PropName)) (spot : SpotState) (rev : ℕ) (path : List ℕ) (resource : Resource) → spot ≡ record { asked = Youngest; rev = rev; path = path } → rev + 1 ≡ length sight.trees.revisions → resource ≡ Public path
-    → about_place (sources_by sight) spot.asked children wanted (place_in (sources_by sight) spot.rev spot.path) ≡ or_no_node (propfind_text (sources_by sight) resource children wanted)
+    → about_place (sources_by sight) spot.asked children wanted (place_in (sources_by sight) spot.rev spot.path) ≡ or_no_such_node (propfind_text (sources_by sight) resource children wanted)
 public_at sight children wanted spot rev path resource spot_is next is =
     ap (λ (s : SpotState). about_place (sources_by sight) s.asked children wanted (place_in (sources_by sight) s.rev s.path)) spot_is
     ∙ ap (λ (r : ℕ). about_place (sources_by sight) Youngest children wanted (place_in (sources_by sight) r path)) (youngest_is sight rev next)
     ∙ public_is (sources_by sight) children wanted path
-    ∙ ap (λ (r : Resource). or_no_node (propfind_text (sources_by sight) r children wanted)) (sym is)
+    ∙ ap (λ (r : Resource). or_no_such_node (propfind_text (sources_by sight) r children wanted)) (sym is)
 
 -- and at that of a path of a revision that is named
 pub rvr_at : (sight : SightState) (children : Bool) (wanted : Option (List PropName)) (spot : SpotState) (rev : ℕ) (path : List ℕ) (resource : Resource) → spot ≡ record { asked = Named; rev = rev; path = path } → resource ≡ Rvr rev path
-    → about_place (sources_by sight) spot.asked children wanted (place_in (sources_by sight) spot.rev spot.path) ≡ or_no_node (propfind_text (sources_by sight) resource children wanted)
+    → about_place (sources_by sight) spot.asked children wanted (place_in (sources_by sight) spot.rev spot.path) ≡ or_no_such_node (propfind_text (sources_by sight) resource children wanted)
 rvr_at sight children wanted spot rev path resource spot_is is =
     ap (λ (s : SpotState). about_place (sources_by sight) s.asked children wanted (place_in (sources_by sight) s.rev s.path)) spot_is
     ∙ rvr_is (sources_by sight) children wanted rev path
-    ∙ ap (λ (r : Resource). or_no_node (propfind_text (sources_by sight) r children wanted)) (sym is)
+    ∙ ap (λ (r : Resource). or_no_such_node (propfind_text (sources_by sight) r children wanted)) (sym is)
 
 -- and of a revision
 pub revision_at_once : (sight : SightState) (children : Bool) (wanted : Option (List PropName)) (rev : ℕ) (resource : Resource) (text : List ℕ) → resource ≡ RevOnly rev → text ≡ body_text (multistatus_tree (sources_by sight) wanted (WholeRevision rev ∷ []))
-    → or_no_node (propfind_text (sources_by sight) resource children wanted) ≡ Ok text
+    → or_no_such_node (propfind_text (sources_by sight) resource children wanted) ≡ Ok text
 revision_at_once sight children wanted rev resource text is written =
-    ap (λ (r : Resource). or_no_node (propfind_text (sources_by sight) r children wanted)) is
+    ap (λ (r : Resource). or_no_such_node (propfind_text (sources_by sight) r children wanted)) is
     ∙ revision_is (sources_by sight) children wanted rev
     ∙ ap (λ (t : List ℕ). Ok t) (sym written)

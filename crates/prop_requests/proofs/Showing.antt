@@ -16,7 +16,8 @@ use Rattle.log_access.specs.Levels.{shows_props, shows_author}
 use Rattle.log_access.specs.Records.{ShownRecord, some_author, record_at, shown_record}
 use Rattle.log_access.specs.Shown.{shown_revision, shown_nothing, shown_of, log_in}
 use Rattle.path_locks.specs.LockStates.{LockState, lock_at, shown_locks}
-use Rattle.prop_values.specs.Places.{Told}
+use Rattle.prop_values.specs.Places.{Facts}
+use Rattle.prop_values.specs.Records.{AreSameBesideRecord}
 use Rattle.prop_values.specs.Subjects.{told_revision, told_lock, told_of}
 use Rattle.prop_values.specs.declared.subject.Subject.{Subject}
 use Rattle.prop_values.specs.declared.subject.Subject.TheVariants.{YoungestNode, RevisionNode, WholeRevision}
@@ -47,7 +48,7 @@ told_there sight (RevisionNode place) can = can
 told_there sight (WholeRevision rev) can = can
 
 -- what is told of a subject, part by part
-pub told_is : (sight : SightState) (subject : Subject) (level : Level) (commit : Commit) (told : Told) → CanBeTold sight subject
+pub told_is : (sight : SightState) (subject : Subject) (level : Level) (commit : Commit) (told : Facts) → CanBeTold sight subject
     → level ≡ level_in sight (told_revision subject)
     → commit ≡ (revision_at sight.trees (told_revision subject)).commit
     → told.root ≡ sight.root
@@ -69,6 +70,11 @@ told_is sight subject level commit told can level_is commit_is root_is uuid_is l
       author = (author_is ∙ ap (λ (c : Commit). if shows_author level then some_author c.author else None) commit_is ∙ ap (λ (r : ShownRecord). r.author) shown) i;
       moment = (moment_is ∙ ap (λ (c : Commit). if shows_author level then Some c.moment else None) commit_is ∙ ap (λ (r : ShownRecord). r.moment) shown) i;
     }
+
+-- what is told without the record, part by part
+pub told_beside : (sight : SightState) (subject : Subject) (told : Facts) → told.root ≡ sight.root → told.uuid ≡ sight.trees.uuid → told.lock ≡ told_lock (sources_by sight) subject → AreSameBesideRecord told (told_of (sources_by sight) subject)
+unfolding told_of sources_of shown_of
+told_beside sight subject told root_is uuid_is lock_is = record { root = root_is; uuid = uuid_is; lock = lock_is }
 
 -- ---- levels that are known
 

@@ -4,7 +4,7 @@ use Rattle.std.specs.Option.{option_map}
 use Rattle.std.specs.List.{filter_map}
 use Rattle.dsv_base.specs.Paths.{is_path, join_text}
 use Rattle.rev_nodes.specs.declared.entry.Entry.{Entry}
-use Rattle.rev_nodes.specs.Forests.{Numbered, Forest, place_at, id_at}
+use Rattle.rev_nodes.specs.Forests.{Forest, place_at, id_at}
 use Rattle.rev_nodes.specs.Entries.{AreEntriesOf}
 use Rattle.prop_values.specs.declared.subject.Subject.{Subject}
 use Rattle.prop_values.specs.declared.subject.Subject.TheVariants.{YoungestNode, RevisionNode, WholeRevision}
@@ -12,8 +12,8 @@ use Rattle.prop_requests.specs.Sights.{SightState, sees}
 use Rattle.prop_requests.specs.Spots.{SpotState, subject_at}
 
 -- where the entry of this directory is asked about
-abbrev pub spot_in : SpotState → Entry → SpotState
-spot_in directory entry =
+abbrev pub spot_below : SpotState → Entry → SpotState
+spot_below directory entry =
     record { asked = directory.asked; rev = directory.rev; path = join_text directory.path entry.name }
 
 -- what stands at a spot as what has properties, where the user may read its path
@@ -25,7 +25,7 @@ spot_subject sight spot =
 
 -- an entry of a directory as what has properties, where the user may read its path
 abbrev pub entry_subject : SightState → SpotState → Entry → Option Subject
-entry_subject sight directory entry = spot_subject sight (spot_in directory entry)
+entry_subject sight directory entry = spot_subject sight (spot_below directory entry)
 
 -- the entries of a directory that the user may read, as what has properties
 abbrev pub entry_subjects : SightState → SpotState → List Entry → List Subject

@@ -19,14 +19,14 @@ is_free_of_propfind NoMemory = true
 is_free_of_propfind NoNode = false
 
 -- the names of the properties that are wanted, where not all are
-abbrev pub names_in : Wanted → Option (List PropName)
-names_in All = None
-names_in (These names) = Some names
+abbrev pub wanted_names : Wanted → Option (List PropName)
+wanted_names All = None
+wanted_names (These names) = Some names
 
 -- an answer, where there is a node or a revision to tell of
-abbrev pub or_no_node : Option (List ℕ) → Result (List ℕ) PropfindFault
-or_no_node (Some text) = Ok text
-or_no_node None = Err NoNode
+abbrev pub or_no_such_node : Option (List ℕ) → Result (List ℕ) PropfindFault
+or_no_such_node (Some text) = Ok text
+or_no_such_node None = Err NoNode
 
 -- what is answered about a node at its place, where there is one, that is asked about as this, and where they are asked
 -- too about its children, to who wants all properties, or those of these names
@@ -38,4 +38,4 @@ about_place sources asked children wanted (Some place) =
 -- the bytes of the answer about a resource, and where they are asked too its children, with the properties that are
 -- wanted; NoNode where the user is shown no such resource
 unfoldable pub propfind_answer : PropSources → Resource → Bool → Wanted → Result (List ℕ) PropfindFault
-propfind_answer sources resource children wanted = or_no_node (propfind_text sources resource children (names_in wanted))
+propfind_answer sources resource children wanted = or_no_such_node (propfind_text sources resource children (wanted_names wanted))

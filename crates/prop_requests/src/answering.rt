@@ -8,7 +8,7 @@ ghost use Rattle.prop_values.specs.Subjects.{place_in};
 ghost use Rattle.prop_values.specs.declared.subject.Subject.TheVariants.{WholeRevision};
 ghost use Rattle.prop_requests.specs.Entered.{entry_subjects, IsEntered, AreAskedEntries, CanBeTold};
 ghost use Rattle.prop_requests.specs.Multistatus.{multistatus_tree, propfind_text};
-ghost use Rattle.prop_requests.specs.Propfinds.{is_free_of_propfind, names_in, or_no_node, about_place, propfind_answer};
+ghost use Rattle.prop_requests.specs.Propfinds.{is_free_of_propfind, wanted_names, or_no_such_node, about_place, propfind_answer};
 ghost use Rattle.prop_requests.specs.Sights.{sees, sources_by, IsAskable};
 
 use crate::asked_as::AskedAs;
@@ -48,7 +48,7 @@ pub fn propfind(
 
 /// The names of the properties that are wanted, each looked up.
 fn query_of(alloc: Global, wanted: &Wanted) -> Result<Query<'_>, NoMemory>
-    ensures { IfOk result (λ query. query ≡ names_in wanted.now) }
+    ensures { IfOk result (λ query. query ≡ wanted_names wanted.now) }
 {
     match wanted {
         Wanted::All => Ok(Query::all()),
@@ -66,7 +66,7 @@ fn answer_about(
 ) -> Result<Bytes, PropfindFault>
     requires { IsAskable sight.now resource.now }
     ensures { Gives is_free_of_propfind result
-        (or_no_node (propfind_text (sources_by sight.now) resource.now children query.now)) }
+        (or_no_such_node (propfind_text (sources_by sight.now) resource.now children query.now)) }
 {
     match resource {
         Resource::Public(path) => {

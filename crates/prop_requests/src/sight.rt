@@ -30,11 +30,11 @@ impl<'a> Model for Sight<'a> {
     ghost Value = { SightState };
 
     ghost view = { λ s. record {
-        trees = s.trees.now;
-        rules = s.policy.now.rules;
-        locks = s.locks.now;
-        user = option_copied s.user;
-        root = s.root.now;
+      trees = s.trees.now;
+      rules = s.policy.now.rules;
+      locks = s.locks.now;
+      user = option_copied s.user;
+      root = s.root.now;
     } };
 
     ghost invariant = { λ s. s.policy.now.name ≡ s.trees.now.name };
@@ -51,11 +51,11 @@ impl<'a> Sight<'a> {
     ) -> Sight<'a>
         requires { policy.now.name ≡ trees.now.name }
         ensures { result ≡ record {
-            trees = trees.now;
-            rules = policy.now.rules;
-            locks = locks.now;
-            user = option_copied user.entry;
-            root = root.now;
+          trees = trees.now;
+          rules = policy.now.rules;
+          locks = locks.now;
+          user = option_copied user.entry;
+          root = root.now;
         } }
     {
         Sight {

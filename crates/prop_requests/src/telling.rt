@@ -9,7 +9,8 @@ ghost use Rattle.dav_documents.specs.Drafts.{started, with_attributes, with_elem
 ghost use Rattle.dav_documents.specs.Written.{for_each};
 ghost use Rattle.prop_values.specs.PropTags.{prefix_bindings};
 ghost use Rattle.prop_values.specs.Subjects.{told_revision, told_lock, told_of};
-ghost use Rattle.prop_values.specs.Responses.{response_element};
+ghost use Rattle.prop_values.specs.Responses.{response_about, response_element};
+ghost use Rattle.prop_values.specs.Records.{AreSameBesideRecord};
 ghost use Rattle.prop_values.specs.declared.subject.Subject.TheVariants.{WholeRevision};
 ghost use Rattle.prop_requests.specs.Sights.{sources_by};
 ghost use Rattle.prop_requests.specs.Multistatus.{multistatus_tree};
@@ -96,6 +97,21 @@ impl<'a> Telling<'a> {
         Some(known.level)
     }
 
+    /// What is told of a subject, as far as it matters for the properties that are wanted: the level of a
+    /// revision is found only where something of its record is.
+    fn told(&mut self, subject: &Subject<'_>) -> Result<Told<'a>, NoMemory>
+        requires { CanBeTold self.old.sight subject.now }
+        ensures kept { self.new ≡ self.old }
+        ensures told { IfOk result (λ told. response_about told self.old.wanted subject.now
+            ≡ response_element (sources_by self.old.sight) self.old.wanted subject.now) }
+    {
+        if !self.query.wants_record(subject) {
+            return Ok(told_beside_record(self.sight(), subject));
+        }
+        let level = self.level_of(told_revision(subject))?;
+        Ok(told_of(self.sight(), level, subject))
+    }
+
     /// Writes the answer about a subject.
     fn write(&mut self, writer: &mut Writer, subject: &Subject<'_>) -> Result<(), NoMemory>
         requires { CanBeTold self.old.sight subject.now }
@@ -103,8 +119,7 @@ impl<'a> Telling<'a> {
         ensures written { OnOk result (writer.new ≡ with_elements
             (response_element (sources_by self.old.sight) self.old.wanted subject.now) writer.old) }
     {
-        let level = self.level_of(told_revision(subject))?;
-        let told = told_of(self.sight(), level, subject);
+        let told = self.told(subject)?;
         write_response(self.alloc, writer, &told, self.query, subject)
     }
 
@@ -258,6 +273,21 @@ fn told_of<'t>(sight: &'t Sight<'_>, level: Level, subject: &Subject<'_>) -> Tol
         props: shown_props(level, commit),
         author: shown_author(level, commit),
         moment: shown_moment(level, commit),
+    }
+}
+
+/// What is told of a subject without the record of a revision.
+fn told_beside_record<'t>(sight: &'t Sight<'_>, subject: &Subject<'_>) -> Told<'t>
+    requires { CanBeTold sight.now subject.now }
+    ensures { AreSameBesideRecord result (told_of (sources_by sight.now) subject.now) }
+{
+    Told {
+        root: sight.root(),
+        uuid: sight.trees().uuid(),
+        lock: told_lock(sight, subject),
+        props: &[],
+        author: None,
+        moment: None,
     }
 }
 

@@ -8,7 +8,7 @@ use Rattle.prop_values.specs.LiveNames.{live_named}
 use Rattle.prop_values.specs.LiveValues.{live_value, href_element, lock_content}
 use Rattle.prop_values.specs.Subjects.{subject_href}
 use Rattle.prop_values.specs.DeadValues.{dead_value, dead_values}
-use Rattle.prop_values.specs.Places.{Told}
+use Rattle.prop_values.specs.Places.{Facts}
 use Rattle.prop_values.specs.Records.{tells_record, is_revision, asks_by, asks_record, wants_record, AreSameBesideRecord, IsSameForRecords}
 use Rattle.prop_values.specs.Responses.{value_by, value_named, has_value, told_element, found_element, missing_element, wanted_propstats, response_about}
 use Rattle.prop_values.specs.declared.live.Live.{Live}
@@ -24,7 +24,7 @@ second_false : (a b : Bool) → (a || b) ≡ false → b ≡ false
 second_false false b h = h
 second_false true b h = absurd (cc)
 
-module _ (a b : Told) (same : AreSameBesideRecord a b) where
+module _ (a b : Facts) (same : AreSameBesideRecord a b) where
   same_locked : (subject : Subject) → live_value a subject LockDiscovery ≡ live_value b subject LockDiscovery
   unfolding live_value
   same_locked (YoungestNode place) = ap (λ root. Some (lock_content root a.lock)) same.root ∙ ap (λ lock. Some (lock_content b.root lock)) same.lock

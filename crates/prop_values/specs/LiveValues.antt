@@ -13,7 +13,7 @@ use Rattle.dav_names.specs.Written.{target_text}
 use Rattle.dav_documents.specs.Written.{Written, empty_element, text_element, element, joined}
 use Rattle.path_locks.specs.declared.lock.Lock.{Lock}
 use Rattle.prop_values.specs.Contents.{Content, no_content, inside_content, text_content, value_content, content_element}
-use Rattle.prop_values.specs.Places.{NodePlace, Told}
+use Rattle.prop_values.specs.Places.{NodePlace, Facts}
 use Rattle.prop_values.specs.Subjects.{subject_place, told_revision}
 use Rattle.prop_values.specs.declared.subject.Subject.{Subject}
 use Rattle.prop_values.specs.declared.subject.Subject.TheVariants.{YoungestNode, RevisionNode, WholeRevision}
@@ -74,13 +74,13 @@ lock_content root (Some lock) = inside_content (lock_element root lock)
 lock_content root None = no_content
 
 -- the lock on it, which is told of a node of the youngest revision alone
-abbrev pub discovered_lock : Told → Subject → Option Content
+abbrev pub discovered_lock : Facts → Subject → Option Content
 discovered_lock told (YoungestNode place) = Some (lock_content told.root told.lock)
 discovered_lock told (RevisionNode place) = None
 discovered_lock told (WholeRevision rev) = None
 
 -- when the last change at a node was, as HTTP writes it, where that is shown
-abbrev pub modified_content : Told → NodePlace → Option Content
+abbrev pub modified_content : Facts → NodePlace → Option Content
 modified_content told place = option_map (λ moment. text_content (http_text moment)) told.moment
 
 -- ---- the table
@@ -90,7 +90,7 @@ modified_content told place = option_map (λ moment. text_content (http_text mom
 -- that revision's author, where one is shown; of a node where it stands in its revision; of a node of the youngest
 -- revision the lock on it; of a node its path without the first slash; the repository's uuid; of a file the MD5 and the
 -- SHA-1 of its text in hexadecimal with small letters; of a node how many properties it has
-unfoldable pub live_value : Told → Subject → Live → Option Content
+unfoldable pub live_value : Facts → Subject → Live → Option Content
 live_value told subject ResourceType = Some (type_content subject)
 live_value told subject ContentLength = option_map (λ text. text_content (decimal (length text))) (subject_text subject)
 live_value told subject VersionName = Some (text_content (decimal (told_revision subject)))

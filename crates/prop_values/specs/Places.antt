@@ -13,7 +13,7 @@ pub record NodePlace : Type 0 where
 -- what is told of one node or revision beside what it is: where the repository stands, and its uuid; the lock on the node,
 -- where it is one of the youngest revision and has one; and of the record of the revision that is told of, as the user is
 -- shown it, its properties, its author and its moment
-pub record Told : Type 0 where
+pub record Facts : Type 0 where
   pub root : List ℕ
   pub uuid : List ℕ
   pub lock : Option Lock

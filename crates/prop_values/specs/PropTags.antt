@@ -44,8 +44,8 @@ pub record PropTag : Type 0 where
   pub attributes : List Attribute
 
 -- the namespace that the prefix `xml` is bound to without being declared, and no other prefix may be bound to
-abbrev pub xml_space : List ℕ
-xml_space = codes "http://www.w3.org/XML/1998/namespace"
+abbrev pub xml_prefix_space : List ℕ
+xml_prefix_space = codes "http://www.w3.org/XML/1998/namespace"
 
 -- the attribute that binds the prefix N to a namespace, if it is to be bound
 abbrev pub own_binding : Option (List ℕ) → List Attribute
@@ -57,7 +57,7 @@ own_binding (Some space) = binding (codes "N") space ∷ []
 abbrev pub unbound_tag : PropName → PropTag
 unbound_tag name =
     if bytes_eq name.space [] then record { name = name.name; attributes = [] }
-    else if bytes_eq name.space xml_space then record { name = codes "xml:" ++ name.name; attributes = [] }
+    else if bytes_eq name.space xml_prefix_space then record { name = codes "xml:" ++ name.name; attributes = [] }
     else record { name = codes "N:" ++ name.name; attributes = own_binding (Some name.space) }
 
 -- the tag of a name, by the prefix that is bound to its namespace: behind this prefix, if there is one, and else as above

@@ -3,7 +3,7 @@ use Rattle.std.specs.Prelude.{◌≡◌, Bool, true, false, List, Option, Some, 
 use Rattle.std.specs.List.{list_any}
 use Rattle.dsv_base.specs.declared.prop_name.PropName.{PropName}
 use Rattle.prop_values.specs.LiveNames.{live_named}
-use Rattle.prop_values.specs.Places.{Told}
+use Rattle.prop_values.specs.Places.{Facts}
 use Rattle.prop_values.specs.Responses.{response_about}
 use Rattle.prop_values.specs.declared.live.Live.{Live}
 use Rattle.prop_values.specs.declared.live.Live.TheVariants.{ResourceType, ContentLength, VersionName, CreationDate, LastModified, CreatorName, CheckedIn, LockDiscovery, RelativePath, RepositoryUuid, Md5Checksum, Sha1Checksum, PropertyCount}
@@ -47,7 +47,7 @@ wants_record None subject = true
 wants_record (Some names) subject = list_any (asks_record subject) names
 
 -- these say the same but of the record
-pub record AreSameBesideRecord (a b : Told) : Type 0 where
+pub record AreSameBesideRecord (a b : Facts) : Type 0 where
   pub root : a.root ≡ b.root
   pub uuid : a.uuid ≡ b.uuid
   pub lock : a.lock ≡ b.lock
@@ -55,4 +55,4 @@ pub record AreSameBesideRecord (a b : Told) : Type 0 where
 -- the answer about this is the same whatever is shown of the record
 abbrev pub IsSameForRecords : Option (List PropName) → Subject → Type 0
 IsSameForRecords wanted subject =
-    (a b : Told) → AreSameBesideRecord a b → response_about a wanted subject ≡ response_about b wanted subject
+    (a b : Facts) → AreSameBesideRecord a b → response_about a wanted subject ≡ response_about b wanted subject

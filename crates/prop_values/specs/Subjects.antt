@@ -13,7 +13,7 @@ use Rattle.dav_names.specs.Written.{target_text}
 use Rattle.log_access.specs.Records.{ShownRecord}
 use Rattle.path_locks.specs.declared.lock.Lock.{Lock}
 use Rattle.path_locks.specs.LockStates.{LockState, lock_at}
-use Rattle.prop_values.specs.Places.{NodePlace, Told}
+use Rattle.prop_values.specs.Places.{NodePlace, Facts}
 use Rattle.prop_values.specs.declared.subject.Subject.{Subject}
 use Rattle.prop_values.specs.declared.subject.Subject.TheVariants.{YoungestNode, RevisionNode, WholeRevision}
 
@@ -106,7 +106,7 @@ told_lock sources (RevisionNode place) = None
 told_lock sources (WholeRevision rev) = None
 
 -- what is told of a subject, where this record is that of the revision that is told of, as the user is shown it
-abbrev pub told_with : PropSources → Subject → ShownRecord → Told
+abbrev pub told_with : PropSources → Subject → ShownRecord → Facts
 told_with sources subject shown = record {
   root = sources.root;
   uuid = sources.uuid;
@@ -117,5 +117,5 @@ told_with sources subject shown = record {
 }
 
 -- what is told of a subject
-unfoldable pub told_of : PropSources → Subject → Told
+unfoldable pub told_of : PropSources → Subject → Facts
 told_of sources subject = told_with sources subject (sources.facts_of (told_revision subject))

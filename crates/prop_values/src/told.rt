@@ -22,7 +22,7 @@ pub struct Told<'a> {
 
 impl<'a> Model for Told<'a> {
     ghost use Rattle.std.specs.Option.{option_copied};
-    ghost use Rattle.prop_values.specs.Places.{Told as Known};
+    ghost use Rattle.prop_values.specs.Places.{Facts as Known};
 
     ghost Value = { Known };
 

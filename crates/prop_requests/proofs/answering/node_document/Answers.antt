@@ -1,12 +1,9 @@
-use Rattle.std.proofs.Common.{◌≡◌, ◌∙◌, ap, sym, subst, IfOk, Ok, ℕ, List, Result, ◌∷◌}
+use Rattle.std.proofs.Common.{◌≡◌, ◌∙◌, ap, sym, subst, IfOk, Ok, ℕ, List, ◌∷◌}
 use Rattle.std.proofs.lemmas.Result.{IfOk-weaker}
 use Rattle.dav_documents.specs.Written.{body_text}
-use Rattle.prop_values.specs.Subjects.{place_in}
 use Rattle.prop_values.specs.declared.subject.Subject.{Subject}
 use Rattle.prop_requests.specs.Entered.{entry_subjects}
 use Rattle.prop_requests.specs.Multistatus.{multistatus_tree}
-use Rattle.prop_requests.specs.Propfinds.{about_place}
-use Rattle.prop_requests.specs.declared.propfind_fault.PropfindFault.{PropfindFault}
 use Rattle.prop_requests.specs.Sights.{sources_by}
 use Rattle.prop_requests.proofs.Entering.{asked_enter, node_answered}
 use Rattle.prop_requests.proofs.answering.node_document.Goals as goal

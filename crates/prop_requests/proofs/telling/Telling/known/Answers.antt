@@ -1,5 +1,5 @@
-use Rattle.std.proofs.Common.{rules, ◌≡◌, ◌∙◌, ap}
-use Rattle.prop_requests.specs.Levels.{TellingState, level_in, IsKnown}
+use Rattle.std.proofs.Common.{rules, ◌≡◌, ◌∙◌}
+use Rattle.prop_requests.specs.Levels.{level_in, IsKnown}
 use Rattle.prop_requests.proofs.Showing.{known_among}
 use Rattle.prop_requests.proofs.telling.Telling.known.Goals as goal
 

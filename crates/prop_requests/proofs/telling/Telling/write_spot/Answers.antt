@@ -1,9 +1,8 @@
 use Rattle.std.proofs.Common.{◌≡◌, ◌∙◌, true, OnOk, rules, subst, sym, ap, Some}
-use Rattle.rev_nodes.specs.Forests.{Forest}
 use Rattle.dav_documents.specs.Drafts.{Draft}
 use Rattle.prop_values.specs.Responses.{response_element}
 use Rattle.prop_values.specs.declared.subject.Subject.{Subject}
-use Rattle.prop_requests.specs.Sights.{SightState, sees, sources_by}
+use Rattle.prop_requests.specs.Sights.{sees, sources_by}
 use Rattle.prop_requests.specs.Entered.{spot_subject}
 use Rattle.prop_requests.proofs.Entering.{spot_told, one_answer}
 use Rattle.prop_requests.proofs.telling.Telling.write_spot.Goals as goal
