@@ -21,8 +21,8 @@ use Rattle.dav_reading.specs.declared.run.Run.{Run}
 use Rattle.dav_reading.specs.declared.run.Run.TheVariants.{Name, Text, Value, Reference}
 use Rattle.dav_reading.specs.References.{referred}
 use Rattle.dav_reading.specs.Asides.{now_in, then_between}
-use Rattle.dav_reading.specs.Modes.{first_form, reader_with, read_byte, read_bytes}
-use Rattle.dav_reading.specs.Runs.{GoesBy, goes, put, run_left, reader_in, GoesOn, Refers, in_text, in_value, reference_in}
+use Rattle.dav_reading.specs.Modes.{first_form, reader_with, read_byte, read_bytes, read_in}
+use Rattle.dav_reading.specs.Runs.{GoesBy, goes, put, run_left, reader_at, reader_in, GoesOn, Refers, in_text, in_value, reference_in}
 
 -- no form here changes nothing
 kept : (form : Option FormPlace) → first_form form None ≡ form
@@ -173,3 +173,8 @@ value_refers progress tag key quote begun form n = refers (in_value progress tag
 pub err_same : (X Y : Type 0) (left : X → Option Reader) (other : Y → Option Reader) (fault : Unread) (a b : Option Reader) → a ≡ b → GoesBy left (Err fault) a → GoesBy other (Err fault) b
 err_same X Y left other Bad a b e h = sym e ∙ h
 err_same X Y left other NoMemory a b e h = tt
+
+-- a byte of an end tag
+pub closing_goes : (progress : Progress) (name : List ℕ) (begun : ℕ) (form : Option FormPlace) (b : ℕ) (rest : List ℕ) → option_and_then (λ p. read_bytes (reader_at p begun form) rest) (read_in progress (Closing name) b) ≡ read_bytes (reader_in (Closing name) progress begun form) (b ∷ rest)
+closing_goes progress name begun None b rest = sym (map_then (λ p. reader_at p begun None) (read_in progress (Closing name) b) rest)
+closing_goes progress name begun (Some form) b rest = sym (map_then (λ p. reader_at p begun (Some form)) (read_in progress (Closing name) b) rest)

@@ -14,6 +14,7 @@ use Rattle.dav_reading.specs.declared.mode.Mode.TheVariants.{Content, Valued}
 use Rattle.dav_reading.specs.References.{referred}
 use Rattle.dav_reading.specs.Modes.{read_byte, read_bytes}
 use Rattle.dav_reading.specs.declared.mode.Mode.{Mode}
+use Rattle.dav_reading.specs.declared.mode.Place.{Place}
 use Rattle.dav_reading.specs.declared.mode.Reader.{Reader}
 use Rattle.dav_reading.specs.declared.run.Run.{Run}
 use Rattle.dav_reading.specs.declared.run.Run.TheVariants.{Name, Text, Value, Reference}
@@ -41,6 +42,10 @@ run_left run read (b ∷ bs) = cond (goes run b) (run_left run (read ++ put run 
 -- a reader by where it stands, and what it saw
 abbrev pub reader_in : Mode → Progress → ℕ → Option FormPlace → Reader
 reader_in mode progress begun form = record { place = record { mode = mode; progress = progress }; begun = begun; form = form }
+
+-- a reader that stands there, and what it saw
+abbrev pub reader_at : Place → ℕ → Option FormPlace → Reader
+reader_at place begun form = record { place = place; begun = begun; form = form }
 
 -- what is left to read comes to the same as all of it, and the text is bad only where that comes to nothing; want of memory is free
 abbrev pub GoesBy : {X : Type 0} → (X → Option Reader) → Result X Unread → Option Reader → Type 0

@@ -15,6 +15,7 @@ mod references;
 mod run;
 mod runs;
 mod starts;
+mod tags;
 mod tree_fault;
 
 pub use document::Document;

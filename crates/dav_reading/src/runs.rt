@@ -10,6 +10,7 @@ use crate::form_place::FormPlace;
 use crate::mode::{Brackets, Mode, Place, Reader};
 use crate::references::referred;
 use crate::run::{Run, run_left};
+use crate::tags::tag_on;
 use dav_elements::{Around, Frame, Progress, Tag, Unread};
 use dsv_base::{Bytes, List, cut_at};
 use std::alloc::Global;
@@ -179,6 +180,7 @@ pub fn run_on<'a>(
     let Reader { place, begun, form } = reader;
     let Place { mode, progress } = place;
     match mode {
+        Mode::Less => tag_on(alloc, progress, begun, form, text),
         Mode::Naming(name) => naming_on(progress, begun, form, name, text),
         Mode::Valued(tag, key, quote, value) if b'&' != quote => {
             valued_on(alloc, progress, begun, form, tag, key, quote, value, text)
