@@ -2,3 +2,4 @@ mod Beginnings
 mod Passed
 mod Progress
 mod Ends
+mod Attending
