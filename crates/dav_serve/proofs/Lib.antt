@@ -3,3 +3,4 @@ mod Passed
 mod Progress
 mod Ends
 mod Attending
+mod EachTwo
