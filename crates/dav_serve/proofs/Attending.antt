@@ -1,8 +1,8 @@
 -- A station's connections, one more at the end.
-use Rattle.std.proofs.Common.{◌≡◌, ℕ, ◌+◌, ◌≤◌, Bool, true, false, List, [], ◌∷◌, ◌++◌, length, map, min, Option, None, Some, refl, sym, ap, ◌∙◌, subst, inl, inr, append_assoc, append-nil, arith, length-append}
+use Rattle.std.proofs.Common.{◌≡◌, ℕ, ◌+◌, ◌≤◌, false, List, [], ◌∷◌, ◌++◌, map, min, Option, None, Some, refl, sym, ap, ◌∙◌, subst, inl, inr, append_assoc, append-nil, arith, length-append}
 use Rattle.std.specs.Prelude.{option_map}
 use Rattle.std.proofs.lemmas.List.{map-append}
-use Rattle.dsv_outside.specs.Causes.{last_count, Rose}
+use Rattle.dsv_outside.specs.Causes.{last_count}
 use Rattle.dsv_outside.specs.DoorStates.{PairState, Returned}
 use Rattle.dsv_outside.specs.Doors.{TakesInput, new_pair}
 use Rattle.dsv_outside.specs.declared.serve_end.ServeEnd.{ServeEnd}
@@ -10,7 +10,7 @@ use Rattle.dsv_outside.specs.declared.serve_end.ServeEnd.TheVariants.{Ended, Clo
 use Rattle.dsv_outside.proofs.Causes.{Rose-earlier}
 use Rattle.http_front.specs.declared.request.Request.{Request}
 use Rattle.http_front.specs.declared.user.User.{User}
-use Rattle.dav_machine.specs.Histories.{HistoryEntry, IsPrefix}
+use Rattle.dav_machine.specs.Histories.{IsPrefix}
 use Rattle.dav_machine.specs.States.{State}
 use Rattle.dav_machine.proofs.Talking.{Talk-grown, IsPrefix-refl, IsPrefix-trans}
 use Rattle.dav_serve.specs.Points.{Point}

@@ -1,5 +1,5 @@
 -- What holds at each place holds of each two items of the lists.
-use Rattle.std.proofs.Common.{◌≡◌, ℕ, zero, suc, ◌+◌, ◌<◌, List, [], ◌∷◌, ◌++◌, length, get_or, take, drop, map, arith, refl, ap, ◌∙◌, sym, slice_index_or}
+use Rattle.std.proofs.Common.{◌≡◌, ℕ, suc, ◌<◌, List, [], ◌∷◌, ◌++◌, length, get_or, take, drop, map, arith, refl, ap, ◌∙◌, sym}
 use Rattle.dav_serve.specs.SideBySide.{OfEachTwo}
 
 pub of_each_two : {X : Type 0} (R : X → X → Type 0) (xs ys : List X) → length ys ≡ length xs

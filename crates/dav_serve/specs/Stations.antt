@@ -34,9 +34,10 @@ told_by opening pass origin front state faults readings station = record {
   limit = station.limit;
 }
 
--- the turns of stations, and their doors
+-- a station's turn
 abbrev pub turn_of : {T D C : Type 0} → Station T D C → T
 turn_of station = station.turn
 
+-- its door
 abbrev pub door_of : {T D C : Type 0} → Station T D C → D
 door_of station = station.door

@@ -1,11 +1,10 @@
 -- The connections of a station, one after another.
 use Rattle.std.specs.Prelude.{ℕ, ◌≡◌, ◌+◌, ◌≤◌, ◌⊎◌, ⊤, Bool, true, false, List, [], ◌∷◌, ◌++◌, length, map, min, Option, None, Some, option_map}
 use Rattle.dsv_outside.specs.Causes.{last_count, Rose, HasCause, next_count}
-use Rattle.dsv_outside.specs.DoorStates.{PairState, Returned, DoorState}
+use Rattle.dsv_outside.specs.DoorStates.{PairState, Returned}
 use Rattle.dsv_outside.specs.Doors.{TakesInput, new_pair}
 use Rattle.http_front.specs.declared.user.User.{User}
-use Rattle.dav_machine.specs.Histories.{HistoryEntry, IsPrefix}
-use Rattle.dav_machine.specs.Origins.{Origin}
+use Rattle.dav_machine.specs.Histories.{IsPrefix}
 use Rattle.dav_machine.specs.States.{State}
 use Rattle.dav_serve.specs.Points.{Point}
 use Rattle.dav_serve.specs.Serves.{Serves, is_read_fault, is_write_fault}
@@ -49,10 +48,11 @@ Came (Some inputs) new pairs =
     (given : List (List ℕ)) × (rest : List (List ℕ))
     × (inputs ≡ given ++ rest) × (new ≡ Some rest) × (pairs ≡ map new_pair given)
 
--- the pair of a connection as it was given, and what went back
+-- the pair of a connection as it was given
 abbrev pub given_of : Connection → PairState
 given_of connection = connection.given
 
+-- what went back of it
 abbrev pub returned_of : Connection → Returned
 returned_of connection = connection.returned
 

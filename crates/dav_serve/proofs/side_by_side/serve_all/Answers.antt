@@ -1,4 +1,4 @@
-use Rattle.std.proofs.Common.{rules, ◌≡◌, ℕ, ◌<◌, List, length, slice_index_or, subst}
+use Rattle.std.proofs.Common.{rules, ◌≡◌, length, slice_index_or, subst}
 use Rattle.dav_serve.specs.SideBySide.{BecameStation}
 use Rattle.dav_serve.proofs.EachTwo.{of_each_two}
 use Rattle.dav_serve.proofs.side_by_side.serve_all.Goals as goal

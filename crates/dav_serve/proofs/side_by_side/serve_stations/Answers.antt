@@ -1,4 +1,4 @@
-use Rattle.std.proofs.Common.{◌≡◌, ◌∙◌, ap, subst, List, length}
+use Rattle.std.proofs.Common.{◌≡◌, ◌∙◌, ap, subst, length}
 use Rattle.dav_serve.specs.SideBySide.{BecameStation, OfEachTwo}
 use Rattle.dav_serve.specs.Stations.{turn_of, door_of}
 use Rattle.dav_serve.proofs.EachTwo.{two_lengths, made_of_written}

@@ -1,4 +1,4 @@
-use Rattle.std.proofs.Common.{◌≡◌, ◌∙◌, refl, sym, ap, subst, ◌≤◌, ℕ, ◌∷◌, [], ◌++◌, List}
+use Rattle.std.proofs.Common.{◌∙◌, refl, sym, ap, subst, ◌≤◌, ℕ, ◌∷◌, [], ◌++◌, List}
 use Rattle.std.specs.Prelude.{option_map}
 use Rattle.dsv_outside.specs.DoorStates.{DoorState, PairState, Returned}
 use Rattle.dsv_outside.specs.Doors.{TakesInput}

@@ -1,6 +1,3 @@
-use Rattle.std.proofs.Common.{◌≡◌, ◌<◌, ◌≤◌, ℕ, sym, subst, Bool, true, false, arith}
-use Rattle.dav_serve.specs.Stations.{told_by, StationState}
-use Rattle.dav_serve.specs.Visits.{Attends, AttendsOne}
 use Rattle.dav_serve.proofs.Attending.{attended_begun, attended_more}
 use Rattle.dav_serve.proofs.station.serve_station.Goals as goal
 
