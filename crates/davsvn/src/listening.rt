@@ -26,15 +26,16 @@ const LAST_PIECES: u32 = 32;
 
 const LAST_PIECE_BYTES: usize = 16_384;
 
-/// Any listener of std as a door. It tells nothing of the connections to come, and is never shut. One
-/// that is silent for the time given, or takes nothing for so long, is a fault of its source or sink.
-/// Contracts see how many pairs it gave, whether one is out, and the count of faults: each call of
-/// `accept` that failed is one.
+/// Any listener of std as a door. It tells nothing of the connections to come, and is never shut. A
+/// connection that gives nothing for the time that it may be silent, or takes nothing for so long, is
+/// a fault of its source or sink. Contracts see how many pairs it gave, whether one is out, and the
+/// count of faults: each call of `accept` that failed is one.
 #[derive(Drop)]
 pub struct Listening<L, R> {
     listener: L,
     rt: R,
     silence: Duration,
+    line: Option<String>,
     given: u64,
     out: bool,
     faults: u64,
@@ -50,14 +51,16 @@ impl<L, R> Model for Listening<L, R> {
 
 impl<L, R> Listening<L, R> {
     /// The listener as a door that has given nothing. A connection may be silent for `silence`, which
-    /// isn't zero; `rt` has the clock that waits between tries.
-    pub fn new(listener: L, rt: R, silence: Duration) -> Listening<L, R>
+    /// isn't zero. The line is put to the errors as soon as a first connection is asked for: by then
+    /// all is ready. `rt` has the errors, and the clock that waits between tries.
+    pub fn new(listener: L, rt: R, silence: Duration, line: Option<String>) -> Listening<L, R>
         ensures { result ≡ record { given = 0; out = false; faults = 0 } }
     {
         Listening {
             listener,
             rt,
             silence,
+            line,
             given: 0,
             out: false,
             faults: 0,
@@ -65,7 +68,7 @@ impl<L, R> Listening<L, R> {
     }
 }
 
-impl<L: OpenListener, R: std::rt::Clock> Door for Listening<L, R>
+impl<L: OpenListener, R: std::rt::Clock + Eprint> Door for Listening<L, R>
 where
     L::Stream: Read + Write + OpenStream + Drop + Send,
 {
@@ -86,6 +89,10 @@ where
         ensures faults { self.new.faults ≡ count_after (is_failed_accept result) self.old.faults }
         ensures new { IsNewPair result }
     {
+        if let Some(line) = self.line.take() {
+            // a line that can't be put changes nothing
+            let _ = self.rt.eprint(line.as_str());
+        }
         match next_connection(&self.listener, &self.rt, self.silence) {
             Some((source, sink)) => {
                 self.given = self.given.saturating_add(1);

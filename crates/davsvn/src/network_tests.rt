@@ -15,7 +15,7 @@ fn silence() -> Duration {
 fn a_peer_that_gives_a_byte_at_a_time(rt: HostRuntime) -> Result<(), Fail> {
     let listener = TcpListener::bind(&rt, "127.0.0.1:0")?;
     let mut peer = TcpStream::connect(&rt, listener.local_addr()?)?;
-    let mut door = Listening::new(listener, rt.clone()?, silence());
+    let mut door = Listening::new(listener, rt.clone()?, silence(), None);
     let Accepted::Pair(mut source, sink) = door.accept() else {
         return Err("no connection")?;
     };
@@ -37,7 +37,7 @@ fn a_peer_that_gives_a_byte_at_a_time(rt: HostRuntime) -> Result<(), Fail> {
 fn a_peer_that_takes_nothing(rt: HostRuntime) -> Result<(), Fail> {
     let listener = TcpListener::bind(&rt, "127.0.0.1:0")?;
     let peer = TcpStream::connect(&rt, listener.local_addr()?)?;
-    let mut door = Listening::new(listener, rt.clone()?, silence());
+    let mut door = Listening::new(listener, rt.clone()?, silence(), None);
     let Accepted::Pair(source, mut sink) = door.accept() else {
         return Err("no connection")?;
     };
@@ -53,7 +53,7 @@ fn a_peer_that_takes_nothing(rt: HostRuntime) -> Result<(), Fail> {
 fn a_peer_that_goes_away_in_a_reply(rt: HostRuntime) -> Result<(), Fail> {
     let listener = TcpListener::bind(&rt, "127.0.0.1:0")?;
     let mut peer = TcpStream::connect(&rt, listener.local_addr()?)?;
-    let mut door = Listening::new(listener, rt.clone()?, silence());
+    let mut door = Listening::new(listener, rt.clone()?, silence(), None);
     let Accepted::Pair(source, mut sink) = door.accept() else {
         return Err("no connection")?;
     };
@@ -71,7 +71,7 @@ fn a_peer_that_goes_away_in_a_reply(rt: HostRuntime) -> Result<(), Fail> {
 fn a_last_reply_is_taken(rt: HostRuntime) -> Result<(), Fail> {
     let listener = TcpListener::bind(&rt, "127.0.0.1:0")?;
     let mut peer = TcpStream::connect(&rt, listener.local_addr()?)?;
-    let mut door = Listening::new(listener, rt.clone()?, silence());
+    let mut door = Listening::new(listener, rt.clone()?, silence(), None);
     let Accepted::Pair(mut source, mut sink) = door.accept() else {
         return Err("no connection")?;
     };
