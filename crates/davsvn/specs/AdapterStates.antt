@@ -11,3 +11,9 @@ pub record ReadingState (R : Type 0) : Type 0 where
 pub record WritingState (W : Type 0) : Type 0 where
   pub inner : W
   pub faults : ℕ
+
+-- a listener of std as a door: the number of pairs given, a u64; whether a pair is out; and its count of faults
+pub record ListeningState : Type 0 where
+  pub given : ℕ
+  pub out : Bool
+  pub faults : ℕ

@@ -1,1 +1,2 @@
 pub mod AdapterStates
+pub mod Doorways

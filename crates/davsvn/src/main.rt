@@ -5,6 +5,9 @@
 #[cfg(test)]
 mod adapter_tests;
 mod disk_files;
+mod listening;
+#[cfg(test)]
+mod network_tests;
 mod reading;
 mod script_keeper;
 mod system_clock;

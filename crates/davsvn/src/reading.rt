@@ -41,6 +41,15 @@ impl<R: Read> Reading<R> {
     }
 }
 
+impl<R: Read + Drop> Reading<R> {
+    /// The reader.
+    pub fn into_inner(self) -> R
+        ensures { result ≡ self.inner }
+    {
+        self.inner
+    }
+}
+
 impl<R: Read> Source for Reading<R> {
     ghost left = { λ s. R.remaining s.inner };
 
