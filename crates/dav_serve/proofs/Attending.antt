@@ -16,7 +16,7 @@ use Rattle.dav_machine.proofs.Talking.{Talk-grown, IsPrefix-refl, IsPrefix-trans
 use Rattle.dav_serve.specs.Points.{Point}
 use Rattle.dav_serve.specs.Serves.{Serves, Talks}
 use Rattle.dav_serve.specs.Stations.{Standing, StationState}
-use Rattle.dav_serve.specs.Visits.{Connection, Visit, Visits, Came, Attended, AttendsOne, AttendsNone, Stationed, most_of, given_of, returned_of, point_of}
+use Rattle.dav_serve.specs.Visits.{Connection, Visit, Visits, Came, Attended, AttendsOne, AttendsNone, Stationed, most_of, given_of, returned_of, point_with}
 
 -- ---- a connection makes the history longer, or leaves it
 
@@ -83,7 +83,7 @@ module _ (users : List User) (p q r : StationState) (count : ℕ) where
         number = length-append so.connections (c ∷ []) ∙ ap (λ (n : ℕ). n + 1) so.number;
         visits = visits_push p.opening p.pass users p.standing so.connections q.standing r.standing c so.visits visit;
         grown = IsPrefix-trans p.standing.history q.standing.history r.standing.history so.grown
-            (serves_grown p.opening p.pass users (point_of q.standing c.given) (point_of r.standing c.returned.pair) c.returned.end visit.served);
+            (serves_grown p.opening p.pass users (point_with q.standing c.given) (point_with r.standing c.returned.pair) c.returned.end visit.served);
         came = subst (λ (pairs : List PairState). Came p.door.coming r.door.coming pairs) (sym (map-append given_of so.connections (c ∷ [])))
             (came_push p.door.coming q.door.coming r.door.coming (map given_of so.connections) c.given so.came one.came);
         went = one.went ∙ ap (option_map (λ (pairs : List Returned). pairs ++ c.returned ∷ [])) so.went ∙ went_push p.door.returned (map returned_of so.connections) c.returned

@@ -16,8 +16,8 @@ pub record Connection : Type 0 where
   pub returned : Returned
 
 -- what a connection works with, where the station stands so and the pair is so
-abbrev pub point_of : Standing → PairState → Point
-point_of standing pair = record {
+abbrev pub point_with : Standing → PairState → Point
+point_with standing pair = record {
   history = standing.history;
   left = pair.left;
   over = pair.over;
@@ -28,7 +28,7 @@ point_of standing pair = record {
 -- the connection was served between these two, and its counts of faults rose where it ended by a fault
 pub record Visit (opening : State) (pass : ℕ) (users : List User) (p q : Standing) (connection : Connection) : Type 0 where
   pub served :
-      Serves opening pass users (point_of p connection.given) (point_of q connection.returned.pair) connection.returned.end
+      Serves opening pass users (point_with p connection.given) (point_with q connection.returned.pair) connection.returned.end
   pub read : HasCause connection.given.source_faults connection.returned.pair.source_faults (is_read_fault connection.returned.end)
   pub written : HasCause connection.given.sink_faults connection.returned.pair.sink_faults (is_write_fault connection.returned.end)
 
