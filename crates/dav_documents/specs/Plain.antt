@@ -16,3 +16,7 @@ is_written_name_byte b = begins_name b || is_ascii_digit b || b == 45 || b == 46
 unfoldable pub is_written_name : List ℕ → Bool
 is_written_name [] = false
 is_written_name (b ∷ bs) = begins_name b && list_all is_written_name_byte bs && xml_plain (b ∷ bs)
+
+-- a byte that doesn't stay as it is where a text or a value is written: `&`, `<`, `>`, `"` and CR
+abbrev pub needs_escape : ℕ → Bool
+needs_escape b = b == 38 || b == 60 || b == 62 || b == 34 || b == 13

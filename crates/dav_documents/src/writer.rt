@@ -1,5 +1,7 @@
 ghost use Rattle.std.specs.Prelude.{◌≡◌, ◌++◌, ℕ, List, false, [], OnOk, IfOk, codes};
+ghost use Rattle.std.specs.List.{list_any};
 ghost use Rattle.dsv_base.specs.Escapes.{xml_text};
+ghost use Rattle.dav_documents.specs.Plain.{needs_escape};
 ghost use Rattle.dav_documents.specs.Written.{Written, attribute, binding, empty_element, text_element, written_text, page_text, body_text};
 ghost use Rattle.dav_documents.specs.Drafts.{nothing_written, declaration_written, front_written, with_tag_closed, started, with_value, with_attribute, with_written_text, ended, with_elements};
 
@@ -107,8 +109,7 @@ impl Writer {
             return Ok(());
         }
         self.settle()?;
-        push_xml_text(&mut self.bytes, text)?;
-        Ok(())
+        push_escaped(&mut self.bytes, text)
     }
 
     /// Ends the element that was begun last and hasn't ended; `name` is its name.
@@ -195,8 +196,27 @@ impl Writer {
         ensures { OnOk result (self.new ≡ with_value value.now self.old) }
     {
         self.bytes.extend_from_slice(b"=\"")?;
-        push_xml_text(&mut self.bytes, value)?;
+        push_escaped(&mut self.bytes, value)?;
         self.bytes.push(b'"')?;
         Ok(())
     }
+}
+
+/// Adds a text or a value as it is written in XML: in one piece, where no byte of it needs an escape.
+#[tactic(auto, using(crate::proofs::Unescaped::text_kept))]
+fn push_escaped(out: &mut Vec<u8>, text: &[u8]) -> Result<(), NoMemory>
+    ensures { OnOk result (out.new.items ≡ out.old.items ++ xml_text text.now) }
+{
+    if needs_escape(text) {
+        return push_xml_text(out, text);
+    }
+    out.extend_from_slice(text)?;
+    Ok(())
+}
+
+/// Whether a byte of the text needs an escape.
+fn needs_escape(text: &[u8]) -> bool
+    ensures { result ≡ list_any needs_escape text.now }
+{
+    text.iter().any(|b| *b == b'&' || *b == b'<' || *b == b'>' || *b == b'"' || *b == b'\r')
 }
