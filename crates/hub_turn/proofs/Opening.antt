@@ -29,10 +29,10 @@ from_times (suc n) front k x =
     omega (arith, below_more x k)
 
 module _ {H : Type 0} (tells : H → CoreTold) (about : Start) where
-  knows_whole : 0 < about.passes → Knows {K = K} about (some None ∷ []) about.history 0 (whole about)
+  knows_whole : 0 < about.passes → Knows {H = H} about (some None ∷ []) about.history 0 (whole about)
   knows_whole many = record { of = λ _. refl; follow = from_follow about.passes about.history 0; serving = (refl, refl, refl); some = omega (arith, from_length about.passes about.history 0) }
 
-  only_one : 0 < about.passes → (i : ℕ) (v : SeatView) → get_elem? (whole about ∷ []) i ≡ some v → Knows {K = K} about (some None ∷ []) about.history 0 v
+  only_one : 0 < about.passes → (i : ℕ) (v : SeatView) → get_elem? (whole about ∷ []) i ≡ some v → Knows {H = H} about (some None ∷ []) about.history 0 v
   only_one many zero v e = subst (Knows about (some None ∷ []) about.history 0) (some-injective (whole about) v e) (knows_whole many)
   only_one many (suc i) v e = absurd (some-ne-none v (sym e))
 

@@ -100,4 +100,4 @@ pub record EndsOver {H : Type 0} (tells : H → CoreTold) (origin : Origin) (pas
 -- what the hub is after all calls of these passes, which are all of one start
 abbrev pub Ended : {H : Type 0} → (H → CoreTold) → List PassState → H → Type 0
 Ended tells [] hub = ⊥
-Ended faults (p ∷ ps) hub = EndsOver tells p.origin (p ∷ ps) hub
+Ended tells (p ∷ ps) hub = EndsOver tells p.origin (p ∷ ps) hub
