@@ -1,5 +1,5 @@
 -- A listener of std as a door.
-use Rattle.std.specs.Prelude.{ℕ, ◌≡◌, Bool, false, List, Option, None, ⊤}
+use Rattle.std.specs.Prelude.{ℕ, ◌≡◌, false, List, Option, None, ⊤}
 use Rattle.dsv_outside.specs.DoorStates.{PairState, DoorState}
 use Rattle.dsv_outside.specs.declared.accepted.Accepted.{Accepted}
 use Rattle.dsv_outside.specs.declared.accepted.Accepted.TheVariants.{Pair, End, Failed}
