@@ -1,9 +1,9 @@
 -- The tests that views are counted by.
-use Rattle.std.proofs.Common.{◌≡◌, ◌≢◌, ℕ, zero, suc, ◌+◌, ◌%◌, ◌==◌, ◌≤◌, ◌<◌, ◌⊎◌, Bool, true, false, List, [], ◌∷◌, ◌++◌, length, sym, refl, ap, ◌∙◌, subst, arith, eq-eqb, ne_eqb, lt-ltb, le-ltb, ⊎_elim}
+use Rattle.std.proofs.Common.{◌≡◌, ◌≢◌, ℕ, ◌+◌, ◌==◌, ◌≤◌, ◌<◌, List, [], ◌∷◌, ◌++◌, length, refl, ap, ◌∙◌, arith, eq-eqb, ne_eqb, lt-ltb, le-ltb}
 use mathlib.Core.Logic.{dite}
 use native.Mathlib.Decide.{ℕ_discrete, dec_le}
 use Rattle.dav_machine.specs.Histories.{one_if, HistoryEntry}
-use Rattle.hub_turn.specs.Views.{Start, Member, Stage, Founding, Idle, Queued, Served, SeatView, times, has_ticket, has_any, is_served, below}
+use Rattle.hub_turn.specs.Views.{Start, Member, Stage, Founding, Idle, Queued, Served, times, has_ticket, is_served, below}
 use Rattle.hub_turn.specs.Rule.{IsServing, Homes}
 use Rattle.hub_turn.specs.Plays.{IsOfFirst}
 

@@ -1,12 +1,11 @@
 -- The fronts of members, and the authors of entries.
-use Rattle.std.proofs.Common.{◌≡◌, ◌≢◌, ℕ, zero, suc, ◌+◌, ◌==◌, ◌≤◌, ◌<◌, ◌⊎◌, Bool, true, false, cond, List, [], ◌∷◌, ◌++◌, length, sym, refl, ap, ◌∙◌, subst, arith, eq-eqb, ne_eqb, append-nil, append_assoc}
-use Rattle.std.specs.List.{filter}
+use Rattle.std.proofs.Common.{◌≡◌, ◌≢◌, ℕ, ◌<◌, Bool, cond, List, [], ◌∷◌, ◌++◌, sym, ap, ◌∙◌, arith, ne_eqb, append-nil, append_assoc}
 use Rattle.std.proofs.lemmas.List.Elements.{filter-append}
 use mathlib.Core.Logic.{dite}
 use native.Mathlib.Decide.{ℕ_discrete}
-use Rattle.dav_machine.specs.Histories.{one_if, HistoryEntry, own, is_of, IsPrefix}
-use Rattle.hub_turn.specs.Views.{Member, SeatView, times, Follow, AllBelow, AllOf}
-use Rattle.hub_turn.proofs.Counts.{same_yes, same_no}
+use Rattle.dav_machine.specs.Histories.{HistoryEntry, own, is_of, IsPrefix}
+use Rattle.hub_turn.specs.Views.{Member, times, Follow, AllBelow, AllOf}
+use Rattle.hub_turn.proofs.Counts.{same_yes}
 
 pub prefix_more : (front one added : List HistoryEntry) → IsPrefix front one → IsPrefix front (one ++ added)
 prefix_more front one added p = (p.0 ++ added, ap (λ (es : List HistoryEntry). es ++ added) p.1 ∙ append_assoc front p.0 added)

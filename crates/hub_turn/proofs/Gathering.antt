@@ -1,15 +1,14 @@
 -- The seats of passes, put together, and what the hub is then.
-use Rattle.std.proofs.Common.{◌≡◌, ℕ, zero, suc, ◌+◌, ◌≤◌, ◌<◌, List, [], ◌∷◌, ◌++◌, length, Option, map, sym, refl, ap, ◌∙◌, subst, arith, append-nil, append_assoc, length-append}
+use Rattle.std.proofs.Common.{◌≡◌, ℕ, ◌≤◌, ◌<◌, List, [], ◌∷◌, ◌++◌, length, Option, sym, refl, ap, ◌∙◌, subst, arith, append_assoc}
 use Rattle.atomic_table.specs.Seated.{TableId}
 use Rattle.atomic_table.specs.Table.{Me}
 use Rattle.hub_turn.specs.Cores.{CoreTold, KeeperTold}
 use Rattle.dav_machine.specs.Hubs.{IsHubOf}
 use Rattle.dav_machine.specs.Origins.{Origin}
 use Rattle.dav_machine.specs.Histories.{HistoryEntry}
-use Rattle.hub_turn.specs.Views.{Start, Member, Idle, SeatView, Follow, AllOf, times}
-use Rattle.hub_turn.specs.Rule.{Stands, Begun}
+use Rattle.hub_turn.specs.Views.{Start, Member, SeatView, Follow, AllOf}
 use Rattle.hub_turn.specs.Plays.{joined_view, HasAll}
-use Rattle.hub_turn.specs.Passes.{PassState, mark_of, origin_of, member_of, members_of, AreOf, OfOneStart, AreAll, EndsOver, Ended}
+use Rattle.hub_turn.specs.Passes.{PassState, origin_of, member_of, members_of, AreOf, OfOneStart, AreAll, EndsOver, Ended}
 use Rattle.hub_turn.specs.Gatherings.{HasMembers, Gathered}
 use Rattle.hub_turn.specs.Holding.{IsIdle, HoldsHub}
 use Rattle.hub_turn.proofs.Fronts.{all_of_members}

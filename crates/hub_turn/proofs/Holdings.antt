@@ -1,12 +1,11 @@
 -- A seat on its way to the hub and back.
-use Rattle.std.proofs.Common.{◌≡◌, ◌≢◌, ℕ, zero, suc, ◌+◌, ◌%◌, ◌≤◌, ◌<◌, Bool, true, false, IsTrue, List, [], ◌∷◌, ◌++◌, length, Option, Some, None, sym, refl, ap, ◌∙◌, subst, arith}
+use Rattle.std.proofs.Common.{◌≡◌, ◌≢◌, ℕ, ◌+◌, ◌%◌, ◌<◌, List, [], ◌∷◌, length, Option, Some, None, sym, refl, ap, ◌∙◌, subst, arith}
 use mathlib.Core.Option.{none}
 use Rattle.atomic_table.specs.Table.{Me, step, rest, Allows}
-use Rattle.dav_machine.specs.Histories.{HistoryEntry}
 use Rattle.hub_turn.specs.Cores.{CoreTold}
-use Rattle.hub_turn.specs.Views.{Start, Member, Stage, Founding, Idle, Queued, Served, SeatView, with_stage, ticket_of, at_front}
+use Rattle.hub_turn.specs.Views.{Start, Member, Idle, Queued, Served, SeatView, with_stage, ticket_of, at_front}
 use Rattle.hub_turn.specs.Rule.{Stands, Ruled}
-use Rattle.hub_turn.specs.Plays.{HasAll, opened, took, Found, Looked, counted, passed, at_history, Grows}
+use Rattle.hub_turn.specs.Plays.{took, Found, Looked, counted, passed, at_history}
 use Rattle.hub_turn.specs.Holding.{IsIdle, IsFounding, HoldsHub, MayGive, given_back}
 use Rattle.hub_turn.proofs.Steps.{counts, passes_on}
 

@@ -1,16 +1,14 @@
 -- The table at the start meets the rule.
-use Rattle.std.proofs.Common.{◌≡◌, ◌≢◌, ℕ, zero, suc, ◌+◌, ◌==◌, ◌≤◌, ◌<◌, List, [], ◌∷◌, ◌++◌, length, Option, None, sym, refl, ap, ◌∙◌, subst, arith, append-nil}
-use mathlib.Core.Logic.{dite}
+use Rattle.std.proofs.Common.{◌≡◌, ℕ, zero, suc, ◌+◌, ◌≤◌, ◌<◌, List, [], ◌∷◌, length, None, sym, refl, ap, subst, arith, append-nil}
 use mathlib.Core.Option.{some, some-injective, some-ne-none}
-use native.Mathlib.Decide.{ℕ_discrete, dec_le}
 use lib.ListN.{get_elem?}
 use Rattle.atomic_table.specs.Table.{opening}
-use Rattle.dav_machine.specs.Histories.{one_if, HistoryEntry}
+use Rattle.dav_machine.specs.Histories.{HistoryEntry}
 use Rattle.hub_turn.specs.Cores.{CoreTold}
 use Rattle.hub_turn.specs.Starts.{members_from, whole}
-use Rattle.hub_turn.specs.Views.{Start, Member, Idle, SeatView, times, below, total, Follow}
-use Rattle.hub_turn.specs.Rule.{Stands, Knows, Ruled}
-use Rattle.hub_turn.proofs.Counts.{same_yes, same_no, below_yes, below_no, below_more}
+use Rattle.hub_turn.specs.Views.{Start, SeatView, times, below, Follow}
+use Rattle.hub_turn.specs.Rule.{Knows, Ruled}
+use Rattle.hub_turn.proofs.Counts.{below_no, below_more}
 
 pub from_length : (n : ℕ) (front : List HistoryEntry) (k : ℕ) → length (members_from n front k) ≡ n
 from_length zero front k = refl

@@ -1,5 +1,5 @@
 -- What a pass learns of a call.
-use Rattle.std.proofs.Common.{◌≡◌, ℕ, ◌<◌, ◌⊎◌, inl, inr, List, [], ◌∷◌, ◌++◌, length, Option, Some, None, sym, refl, ap, ◌∙◌, subst, ⊎_elim}
+use Rattle.std.proofs.Common.{◌≡◌, ℕ, inl, inr, List, [], ◌∷◌, Option, sym, refl, ap, ◌∙◌, subst, ⊎_elim}
 use mir.Val.{bool_byte}
 use Rattle.atomic_table.specs.Table.{Me}
 use Rattle.dav_machine.specs.declared.answer.Answer.{Answer}
@@ -8,9 +8,8 @@ use Rattle.dav_machine.specs.declared.event.Event.{Event}
 use Rattle.dav_machine.specs.Histories.{HistoryEntry}
 use Rattle.hub_turn.specs.Cores.{CoreTold}
 use Rattle.dav_machine.specs.Turns.{Acted, Stayed, Added}
-use Rattle.hub_turn.specs.Views.{Start, Member, Stage, Served, SeatView, with_stage}
-use Rattle.hub_turn.specs.Rule.{Stands}
-use Rattle.hub_turn.specs.Plays.{Grows, IsOfFirst}
+use Rattle.hub_turn.specs.Views.{Member, SeatView}
+use Rattle.hub_turn.specs.Plays.{Grows}
 use Rattle.hub_turn.specs.Holding.{HoldsHub, MayGive}
 use Rattle.hub_turn.specs.Passes.{IsSeated, first_front}
 

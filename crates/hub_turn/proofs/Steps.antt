@@ -1,18 +1,18 @@
 -- Each step keeps the rule.
-use Rattle.std.proofs.Common.{◌≡◌, ◌≢◌, ℕ, zero, suc, ◌+◌, ◌%◌, ◌==◌, ◌≤◌, ◌<◌, ◌⊎◌, Bool, true, false, List, [], ◌∷◌, ◌++◌, length, get_or, set, Option, Some, None, sym, refl, ap, ◌∙◌, subst, inl, inr, arith, ⊎_elim, length-append, append-nil, append_assoc}
+use Rattle.std.proofs.Common.{◌≡◌, ◌≢◌, ℕ, zero, suc, ◌+◌, ◌%◌, ◌==◌, ◌≤◌, ◌<◌, List, [], ◌∷◌, ◌++◌, length, get_or, set, Option, Some, None, sym, refl, ap, ◌∙◌, subst, arith, ⊎_elim, length-append, append-nil, append_assoc}
 use mathlib.Core.Logic.{dite}
 use mathlib.Core.Option.{some, none, some-injective, some-ne-none}
-use native.Mathlib.Decide.{ℕ_discrete, dec_le}
+use native.Mathlib.Decide.{ℕ_discrete}
 use lib.ListN.{get_elem?}
-use Rattle.atomic_table.specs.Table.{State, Me, Act, keeps, takes as takes_slot, gives, step, stepped, opening, Valid, homes_after, carried_after, Allows, Splits, Joins}
-use Rattle.atomic_table.proofs.Lists.{at_set, at_snoc, set_again, set_here, set_else, one_turn}
-use Rattle.dav_machine.specs.Histories.{one_if, HistoryEntry, own, IsPrefix}
+use Rattle.atomic_table.specs.Table.{State, Me, Act, keeps, takes as takes_slot, gives, step, stepped, Valid, homes_after, carried_after, Allows, Splits, Joins}
+use Rattle.atomic_table.proofs.Lists.{at_snoc, set_again, set_else, one_turn}
+use Rattle.dav_machine.specs.Histories.{one_if, HistoryEntry}
 use Rattle.hub_turn.specs.Cores.{CoreTold}
-use Rattle.hub_turn.specs.Views.{Start, Member, Stage, Founding, Idle, Queued, Served, SeatView, with_stage, ticket_of, at_front, times, has_ticket, has_any, is_served, total, below, Follow, AllBelow}
+use Rattle.hub_turn.specs.Views.{Start, Member, Stage, Founding, Idle, Queued, Served, SeatView, with_stage, ticket_of, at_front, times, has_ticket, has_any, is_served, total, below, Follow}
 use Rattle.hub_turn.specs.Rule.{Stands, Homes, IsServing, Knows, Begun, Ruled}
-use Rattle.hub_turn.specs.Plays.{HasAll, opened, took, Found, Looked, looked, at_history, counted, passed, IsOfFirst, Grows, first_alone, rest_of, all_but_first, first_only, joined_view, spent}
+use Rattle.hub_turn.specs.Plays.{HasAll, opened, took, Looked, looked, at_history, counted, passed, IsOfFirst, Grows, first_alone, rest_of, all_but_first, first_only, joined_view, spent}
 use Rattle.hub_turn.proofs.Totals.{total-set, total-snoc, term_le, two_le, total_le, total_lt, alone_le, each_set}
-use Rattle.hub_turn.proofs.Counts.{same_yes, same_no, below_le, below_zero, below_one, below_yes, below_more, has_queued, has_served, served_has, not_serving, times-append, times_le, first_times}
+use Rattle.hub_turn.proofs.Counts.{same_yes, below_le, below_zero, below_one, below_yes, below_more, has_queued, has_served, served_has, not_serving, times-append, times_le, first_times}
 use Rattle.hub_turn.proofs.Fronts.{follow_more, follow-append, all_below-push}
 
 abbrev M : ℕ

@@ -1,9 +1,9 @@
 -- The seats of passes, put together.
-use Rattle.std.specs.Prelude.{ℕ, ◌≡◌, ◌<◌, List, [], ◌∷◌, ◌++◌, length}
+use Rattle.std.specs.Prelude.{◌≡◌, ◌<◌, List, [], ◌++◌, length}
 use Rattle.atomic_table.specs.Seated.{TableId}
 use Rattle.atomic_table.specs.Table.{Me}
 use Rattle.dav_machine.specs.Origins.{Origin}
-use Rattle.hub_turn.specs.Passes.{PassState, member_of, members_of, origin_of, AreOf}
+use Rattle.hub_turn.specs.Passes.{PassState, members_of, origin_of, AreOf}
 use Rattle.hub_turn.specs.Views.{Member, Idle, SeatView}
 
 -- the seat has these members, of this origin, and no ticket

@@ -1,9 +1,9 @@
 -- A seat that has the hub in hand.
-use Rattle.std.specs.Prelude.{ℕ, ◌≡◌, ◌<◌, List, [], ◌∷◌, length, Option, Some, None}
+use Rattle.std.specs.Prelude.{ℕ, ◌≡◌, ◌<◌, List, [], ◌∷◌, length, Option, None}
 use Rattle.atomic_table.specs.Table.{Me}
 use Rattle.dav_machine.specs.Histories.{HistoryEntry}
 use Rattle.hub_turn.specs.Cores.{CoreTold}
-use Rattle.hub_turn.specs.Views.{Start, Member, Stage, Founding, Idle, Queued, Served, SeatView, with_stage, ticket_of, at_front, times, Follow}
+use Rattle.hub_turn.specs.Views.{Member, Founding, Idle, Served, SeatView, with_stage, at_front, times, Follow}
 use Rattle.hub_turn.specs.Rule.{Stands, Begun}
 use Rattle.hub_turn.specs.Plays.{HasAll, Grows}
 

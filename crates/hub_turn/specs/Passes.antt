@@ -1,5 +1,5 @@
 -- A pass, as contracts see it.
-use Rattle.std.specs.Prelude.{ℕ, ◌≡◌, ◌+◌, ◌<◌, ◌≤◌, zero, suc, List, [], ◌∷◌, ◌++◌, map, length, Result, Ok, Err}
+use Rattle.std.specs.Prelude.{ℕ, ◌≡◌, ◌+◌, ◌<◌, ◌≤◌, zero, suc, List, [], ◌∷◌, ◌++◌, map, length}
 use Rattle.atomic_table.specs.Seated.{TableId}
 use Rattle.dav_machine.specs.Histories.{HistoryEntry}
 use Rattle.dav_machine.specs.Origins.{Origin}

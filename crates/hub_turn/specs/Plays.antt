@@ -1,10 +1,10 @@
 -- What each step tells the view that makes it.
-use Rattle.std.specs.Prelude.{ℕ, ◌≡◌, ◌≢◌, ◌⊎◌, ◌+◌, ◌%◌, ◌<◌, ◌≤◌, List, [], ◌∷◌, ◌++◌, length, Option, Some, None}
+use Rattle.std.specs.Prelude.{ℕ, ◌≡◌, ◌≢◌, ◌⊎◌, ◌%◌, ◌<◌, ◌≤◌, List, [], ◌∷◌, ◌++◌, length, Option, Some, None}
 use Rattle.atomic_table.specs.Table.{Me, Step}
 use Rattle.dav_machine.specs.Histories.{HistoryEntry}
 use Rattle.hub_turn.specs.Cores.{CoreTold}
 use Rattle.dav_machine.specs.States.{opening_state}
-use Rattle.hub_turn.specs.Views.{Start, Member, Stage, Idle, Queued, Served, SeatView, with_stage, ticket_of, at_front, times, Follow}
+use Rattle.hub_turn.specs.Views.{Start, Member, Idle, Queued, Served, SeatView, with_stage, ticket_of, at_front, times, Follow}
 use Rattle.hub_turn.specs.Rule.{Stands, Begun}
 
 -- the view has all members of the start

@@ -2,7 +2,7 @@
 use Rattle.std.specs.Prelude.{ℕ, ◌≡◌, List, [], ◌∷◌}
 use Rattle.atomic_table.specs.Seated.{TableId}
 use Rattle.atomic_table.specs.Table.{Me}
-use Rattle.hub_turn.specs.Views.{Member, Idle, SeatView}
+use Rattle.hub_turn.specs.Views.{Idle, SeatView}
 use Rattle.hub_turn.specs.Plays.{rest_of}
 
 -- all of one table

@@ -3,9 +3,9 @@ use Rattle.std.specs.Prelude.{ℕ, ◌≡◌, ◌+◌, ◌%◌, ◌<◌, ◌≤�
 use mathlib.Core.Option.{some}
 use lib.ListN.{get_elem?}
 use Rattle.atomic_table.specs.Table.{State}
-use Rattle.dav_machine.specs.Histories.{HistoryEntry, IsPrefix}
+use Rattle.dav_machine.specs.Histories.{HistoryEntry}
 use Rattle.hub_turn.specs.Cores.{CoreTold}
-use Rattle.hub_turn.specs.Views.{Start, Member, Stage, Founding, Idle, Queued, Served, SeatView, times, has_ticket, has_any, is_served, total, below, Follow, AllBelow}
+use Rattle.hub_turn.specs.Views.{Start, Stage, Founding, Idle, Queued, Served, SeatView, times, has_ticket, has_any, is_served, total, below, Follow, AllBelow}
 
 -- the hub is of this start, and this is its history
 pub record Stands {H : Type 0} (tells : H → CoreTold) (about : Start) (history : List HistoryEntry) (hub : H) : Type 0 where

@@ -1,5 +1,5 @@
 -- What a seat at the table knows.
-use Rattle.std.specs.Prelude.{ℕ, ◌≡◌, ◌+◌, ◌<◌, Bool, true, false, ◌==◌, nat_lt, List, [], ◌∷◌, ◌++◌, length}
+use Rattle.std.specs.Prelude.{ℕ, ◌≡◌, ◌+◌, ◌<◌, ◌==◌, nat_lt, List, [], ◌∷◌}
 use Rattle.dav_machine.specs.Histories.{HistoryEntry, own, IsPrefix, one_if}
 use Rattle.dav_machine.specs.States.{State as Repository}
 use Rattle.hub_turn.specs.Cores.{KeeperTold}

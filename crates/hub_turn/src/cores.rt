@@ -17,7 +17,8 @@ pub trait Core {
     /// it, or none. The name of a user who is logged in has to be one of the users file's grammar.
     fn act(&mut self, call: &Call) -> Answer
         requires named { IsNamed call.now.request.login }
-        ensures acted { Acted (told self.old).opening (told self.old).history call.now result (told self.new).history }
+        ensures acted { Acted (told self.old).opening (told self.old).history
+            call.now result (told self.new).history }
         ensures opening { (told self.new).opening ≡ (told self.old).opening }
         ensures first { (told self.new).first ≡ (told self.old).first };
 

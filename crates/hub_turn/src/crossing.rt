@@ -1,7 +1,6 @@
 use crate::cores::Core;
-use crate::share::{Pass, Share};
-use dav_machine::{Hub, Turn};
-use dsv_outside::Keeper;
+use crate::share::Share;
+use dav_machine::Turn;
 use std::sync::Wait;
 use std::thread;
 use std::thread::Threads;
@@ -22,8 +21,8 @@ fn work_all<T: Turn + Send, F: Work<T> + Sync, W: Threads + Sync>(
     thread::for_each_mut(rt, turns, threads, &|_, turn: &mut T| { work.work(turn) });
 }
 
-/// The same of shares in any machine.
-fn work_shares<H, R, F, W>(rt: &W, shares: &mut [Share<H, R>], work: &F)
+/// The same of shares in any machine: they may cross threads where the machine may.
+pub fn work_shares<H, R, F, W>(rt: &W, shares: &mut [Share<H, R>], work: &F)
 where
     H: Core + Drop + Send,
     R: Wait + Send,
@@ -31,16 +30,4 @@ where
     W: Threads + Sync,
 {
     work_all(rt, shares, work);
-}
-
-/// Gives each pass to a thread, which works with it, and waits for all of them. It shows that a pass
-/// may cross threads.
-pub fn work_passes<K, R, F, W>(rt: &W, passes: &mut [Pass<K, R>], work: &F)
-where
-    K: Keeper + Drop + Send,
-    R: Wait + Send,
-    F: Work<Pass<K, R>> + Sync,
-    W: Threads + Sync,
-{
-    work_shares(rt, passes, work);
 }

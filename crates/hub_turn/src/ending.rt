@@ -17,8 +17,10 @@ struct Opened<H: Core + Drop> {
     seat: Place<H>,
 }
 
+/// Takes a pass apart.
 fn open<H: Core + Drop, R: Drop>(pass: Share<H, R>) -> Opened<H>
-    ensures board { ((arc_value result.board).shared.table_id ≡ result.seat.table_id) × IsBoard result.seat.table_id }
+    ensures board { ((arc_value result.board).shared.table_id ≡ result.seat.table_id)
+        × IsBoard result.seat.table_id }
     ensures seat { HasMembers pass.origin (member_of pass ∷ []) result.seat.table_id result.seat.me }
 {
     let Share {
@@ -57,7 +59,8 @@ fn are_few<H: Core + Drop, R>(passes: &Vec<Share<H, R>>) -> bool
     }
 }
 
-/// The hub, after all calls of all passes of a start.
+/// Gives the hub, after all calls of all passes of a start, which the passes have to be of. It takes no
+/// memory, and waits for nobody.
 ///
 /// # Errors
 /// Gives the passes back where there are none, or fewer than their start gave.

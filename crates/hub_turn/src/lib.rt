@@ -12,7 +12,7 @@ mod share;
 mod starting;
 
 pub use cores::Core;
-pub use crossing::{Work, work_passes};
+pub use crossing::{Work, work_shares};
 pub use ending::end;
 pub use share::{Pass, Share};
 pub use starting::start;

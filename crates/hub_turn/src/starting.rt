@@ -28,7 +28,12 @@ fn split<H: Core + Drop, R: Drop>(
     requires board { seat.old.table_id ≡ room }
     requires seat { SplitsNext number count seat.old.me }
     ensures seat { (seat.new.table_id ≡ seat.old.table_id) × (seat.new.me ≡ (all_but_first seat.old.me.0, [])) }
-    ensures pass { result ≡ record { opening = seat.old.me.0.about.opening; number = number; origin = origin_of seat.old.table_id seat.old.me.0.about; front = seat.old.me.0.about.history } }
+    ensures pass { result ≡ record {
+      opening = seat.old.me.0.about.opening;
+      number = number;
+      origin = origin_of seat.old.table_id seat.old.me.0.about;
+      front = seat.old.me.0.about.history;
+    } }
 {
     let Room { board, rt } = room;
     let theirs = board.shared.split_seat::<Deal>(seat);
@@ -50,7 +55,14 @@ fn deal<H: Core + Drop, R: Drop>(
 ) -> Vec<Share<H, R>>
     requires board { IsBoard seat.table_id }
     requires rooms { Only seat.table_id rooms.items × (vec_len rooms ≡ count) }
-    requires seat { seat.me ≡ (record { members = members_from count seat.me.0.about.history 0; stage = Idle; about = seat.me.0.about }, []) }
+    requires seat { seat.me ≡ (
+      record {
+        members = members_from count seat.me.0.about.history 0;
+        stage = Idle;
+        about = seat.me.0.about;
+      },
+      [],
+    ) }
     requires count { count ≡ seat.me.0.about.passes }
     requires passes { (passes.items ≡ []) × (count ≤ vec_capacity passes) }
     ensures { result.items ≡ passes_from count (origin_of seat.table_id seat.me.0.about) 0 }
@@ -81,7 +93,8 @@ fn prepare<H: Core + Drop, R: Clone + Drop>(
     count: usize,
 ) -> Option<Ready<H, R>>
     requires { (1 ≤ count) × (count ≤ 64) }
-    ensures board { IfSome result (λ r. ((arc_value r.board).shared.table_id ≡ r.seat.table_id) × IsBoard r.seat.table_id) }
+    ensures board { IfSome result
+        (λ r. ((arc_value r.board).shared.table_id ≡ r.seat.table_id) × IsBoard r.seat.table_id) }
     ensures seat { IfSome result (λ r. r.seat.me ≡ (whole (start_over H.told hub.now count), [])) }
     ensures rooms { IfSome result (λ r. Only r.seat.table_id r.rooms.items × (vec_len r.rooms ≡ count)) }
     ensures passes { IfSome result (λ r. (r.passes.items ≡ []) × (count ≤ vec_capacity r.passes)) }
@@ -115,7 +128,8 @@ fn prepare<H: Core + Drop, R: Clone + Drop>(
     })
 }
 
-/// So many passes over one hub, numbered from 0.
+/// Gives 1 to 64 passes over one hub, numbered from 0 in the list's order. Each has the hub's history as
+/// its front, and all have one origin.
 ///
 /// # Errors
 /// Want of memory gives the hub back, as it was.
@@ -127,7 +141,8 @@ pub fn start<H: Core + Drop, R: Clone + Drop>(
 ) -> Result<Vec<Share<H, R>>, H>
     requires { (1 ≤ passes) × (passes ≤ 64) }
     ensures { MatchResult result
-        (λ given. (origin : Origin) × IsStart H.told hub passes origin × (given.items ≡ passes_from passes origin 0))
+        (λ given. (origin : Origin) × IsStart H.told hub passes origin
+        × (given.items ≡ passes_from passes origin 0))
         (λ back. back ≡ hub) }
 {
     let ready = match prepare(alloc, rt, &hub, passes as usize) {

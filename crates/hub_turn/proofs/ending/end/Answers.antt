@@ -1,4 +1,4 @@
-use Rattle.std.proofs.Common.{rules, arith, ◌∙◌, sym, ap, subst, refl, ◌≡◌, List, []}
+use Rattle.std.proofs.Common.{arith, ◌∙◌, sym, subst, refl, ◌≡◌, List, []}
 use Rattle.atomic_table.specs.Seated.{TableId}
 use Rattle.hub_turn.specs.Passes.{PassState, IsBoard}
 use Rattle.hub_turn.specs.Gatherings.{Gathered}

@@ -1,6 +1,6 @@
-use Rattle.std.proofs.Common.{rules, arith, ◌∙◌, sym, ap, subst, refl, ◌≡◌, ◌<◌, length, List, ◌∷◌}
+use Rattle.std.proofs.Common.{arith, ◌∙◌}
 use Rattle.hub_turn.proofs.Steps.{joins}
-use Rattle.hub_turn.proofs.Gathering.{tables, joined_members}
+use Rattle.hub_turn.proofs.Gathering.{tables}
 use Rattle.hub_turn.proofs.ending.gather.Goals as goal
 
 pub join_seat-requires : goal.join_seat-requires

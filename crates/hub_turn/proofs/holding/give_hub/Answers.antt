@@ -1,5 +1,4 @@
-use Rattle.std.proofs.Common.{rules, arith, ◌∙◌, sym, ap, List, ℕ}
-use Rattle.atomic_table.specs.Table.{Me}
+use Rattle.std.proofs.Common.{arith, ◌∙◌}
 use Rattle.hub_turn.proofs.Holdings.{in_hand_again, told_of, passed_of, give_counts, give_passes}
 use Rattle.hub_turn.proofs.holding.give_hub.Goals as goal
 

@@ -1,4 +1,4 @@
-use Rattle.std.proofs.Common.{rules, arith, ◌∙◌, sym, ap}
+use Rattle.std.proofs.Common.{arith, ◌∙◌}
 use Rattle.hub_turn.proofs.Steps.{opens_up}
 use Rattle.hub_turn.proofs.Holdings.{open_hand, put_hand, put_idle, put_passes}
 use Rattle.hub_turn.proofs.holding.put_hub.Goals as goal

@@ -1,6 +1,6 @@
-use Rattle.std.proofs.Common.{rules, arith, ◌∙◌, sym}
+use Rattle.std.proofs.Common.{arith, ◌∙◌}
 use Rattle.hub_turn.proofs.Steps.{takes, looks}
-use Rattle.hub_turn.proofs.Holdings.{queues, queued_stage, queued_some, queued_empty, queued_on, found_of, hand_of, never_none, holds_of}
+use Rattle.hub_turn.proofs.Holdings.{queues, queued_stage, queued_some, queued_empty, found_of, hand_of}
 use Rattle.hub_turn.proofs.holding.take_hub_alone.Goals as goal
 
 pub fetch_add-ticket-requires : goal.fetch_add-ticket-requires

@@ -1,6 +1,5 @@
-use Rattle.std.proofs.Common.{rules, arith, ◌∙◌, sym, ap, subst, List}
+use Rattle.std.proofs.Common.{arith, ◌∙◌, sym, ap, subst}
 use Rattle.std.specs.Arc.{arc_value}
-use Rattle.atomic_table.specs.Seated.{TableId}
 use Rattle.hub_turn.proofs.Dealing.{only_push}
 use Rattle.hub_turn.specs.Rooms.{Only}
 use Rattle.hub_turn.proofs.rooms.rooms.Goals as goal

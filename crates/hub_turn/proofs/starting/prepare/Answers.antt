@@ -1,4 +1,4 @@
-use Rattle.std.proofs.Common.{rules, arith, ◌∙◌, sym, ap, length}
+use Rattle.std.proofs.Common.{◌∙◌, sym, ap, length}
 use Rattle.hub_turn.specs.Starts.{start_over}
 use Rattle.hub_turn.proofs.Opening.{opens}
 use Rattle.hub_turn.proofs.starting.prepare.Goals as goal

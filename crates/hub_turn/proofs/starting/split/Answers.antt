@@ -1,9 +1,7 @@
-use Rattle.std.proofs.Common.{rules, arith, ◌∙◌, sym, ap, subst, refl, ◌≡◌, ◌<◌, length, List, ◌∷◌}
+use Rattle.std.proofs.Common.{arith, ◌∙◌, sym, ap, subst, ◌<◌}
 use Rattle.atomic_table.specs.Seated.{TableId}
-use Rattle.hub_turn.specs.Views.{Member}
-use Rattle.hub_turn.specs.Passes.{IsBoard}
 use Rattle.hub_turn.proofs.Steps.{splits}
-use Rattle.hub_turn.proofs.Dealing.{some_next, seated_next, front_next}
+use Rattle.hub_turn.proofs.Dealing.{some_next}
 use Rattle.hub_turn.proofs.starting.split.Goals as goal
 
 pub split_seat-theirs-requires : goal.split_seat-theirs-requires

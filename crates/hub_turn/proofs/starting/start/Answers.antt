@@ -1,6 +1,6 @@
-use Rattle.std.proofs.Common.{rules, arith, ◌∙◌, sym, ap, length}
+use Rattle.std.proofs.Common.{arith}
 use Rattle.hub_turn.specs.Starts.{start_over}
-use Rattle.hub_turn.proofs.Dealing.{founds, founded, dealt_own, about_own}
+use Rattle.hub_turn.proofs.Dealing.{founds}
 use Rattle.hub_turn.proofs.starting.start.Goals as goal
 
 pub put_hub-requires-clause-founding : goal.put_hub-requires-clause-founding

@@ -1,4 +1,4 @@
-use Rattle.std.proofs.Common.{◌∙◌, sym, ap, subst, rules}
+use Rattle.std.proofs.Common.{◌∙◌, sym, ap, subst}
 use Rattle.hub_turn.specs.Holding.{MayGive}
 use Rattle.hub_turn.specs.Passes.{PassState}
 use Rattle.hub_turn.proofs.Passing.{may_act}
