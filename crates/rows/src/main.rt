@@ -3,9 +3,11 @@
 #![tactic(auto)]
 
 mod checking;
+mod connections;
 mod cut;
 mod run_rows;
 mod run_tables;
+mod serve_rows;
 mod tables;
 mod talks;
 
@@ -40,7 +42,7 @@ fn print_report<R: Print>(rt: &R, report: &Report) -> Result<()> {
 
 fn main(rt: HostRuntime) -> Result<ExitCode> {
     let mut book = read_book(&rt)?;
-    let report = checking::check_all(rt.alloc(), &mut book)?;
+    let report = checking::check_all(&rt, rt.alloc(), &mut book)?;
     print_report(&rt, &report)?;
     if report.faults().is_empty() {
         Ok(ExitCode::SUCCESS)

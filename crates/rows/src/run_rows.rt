@@ -117,7 +117,7 @@ pub fn source_of(alloc: Global, input: &[u8], failing: Vec<u64>) -> Result<MemSo
     Ok(MemSource::new(bytes, failing))
 }
 
-fn sink_of(alloc: Global, row: &Row, fails: &str) -> Result<MemSink> {
+pub fn sink_of(alloc: Global, row: &Row, fails: &str) -> Result<MemSink> {
     Ok(MemSink::new(Vec::new(alloc), row.numbers(alloc, fails)?))
 }
 
@@ -133,7 +133,7 @@ pub fn keeper_of(alloc: Global, row: &Row) -> Result<MemKeeper> {
 }
 
 /// The files that the row tells: a line `file NAME: TEXT` makes one, and `no file: NAME` takes it away.
-fn files_of(alloc: Global, book: &Book, row: &Row) -> Result<MemFiles> {
+pub fn files_of(alloc: Global, book: &Book, row: &Row) -> Result<MemFiles> {
     let failing = row.numbers(alloc, "files fail")?;
     let contents = contents_of(alloc, book, row)?;
     Ok(MemFiles::new(contents, failing))
@@ -194,7 +194,7 @@ fn differs(
     kept_differs(alloc, book, row, after.keeper.kept())
 }
 
-fn status_differs(alloc: Global, row: &Row, status: Status) -> Result<Option<String>> {
+pub fn status_differs(alloc: Global, row: &Row, status: Status) -> Result<Option<String>> {
     let came = decimal_text(alloc, u64::from(status.0))?;
     let wanted = row.find("status").unwrap_or("0");
     difference(alloc, "status", wanted.as_bytes(), came.get())
@@ -208,7 +208,7 @@ fn texts_differ(alloc: Global, book: &Book, row: &Row, after: &MemWorld) -> Resu
     text_differs(alloc, book, row, "line", after.errors.taken())
 }
 
-fn text_differs(
+pub fn text_differs(
     alloc: Global,
     book: &Book,
     row: &Row,

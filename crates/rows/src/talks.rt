@@ -1,27 +1,17 @@
+use crate::connections::{Connection, connection_named, end_word, served_otherwise, take_line};
 use crate::cut::{CutSource, Cutting};
 use crate::run_rows::{clock_of, cuttings_of, keeper_of, kept_differs, source_of};
 use anyhow::{Result, bail};
 use authz_check::Policy;
 use authz_file::Rules;
 use dav_machine::{Hub, Solo};
-use dav_serve::{ServeEnd, serve_connection};
+use dav_serve::serve_connection;
 use dsv_outside::{MemClock, MemKeeper, MemSink};
 use http_front::Users;
 use rev_trees::Trees;
-use row_files::{Book, Line, Row, difference, expand, numbers_in};
+use row_files::{Book, Row};
 use row_inputs::{rules_of, trees_of, users_of};
 use std::alloc::Global;
-
-/// One connection of a conversation.
-#[derive(Drop)]
-struct Connection {
-    name: String,
-    input: Vec<u8>,
-    source_fails: Vec<u64>,
-    sink_fails: Vec<u64>,
-    output: Vec<u8>,
-    end: String,
-}
 
 /// Where a conversation differs, if anywhere: several connections over one hub, each served to its end
 /// before the next, with their inputs whole, then byte by byte, and cut at every place where the row
@@ -52,34 +42,6 @@ fn connections_of(alloc: Global, book: &Book, row: &Row) -> Result<Vec<Connectio
         }
     }
     Ok(connections)
-}
-
-/// A connection without input, output and faults.
-fn connection_named(alloc: Global, name: &str) -> Result<Connection> {
-    let name = String::from_str(alloc, name)?;
-    let end = String::from_str(alloc, "ended")?;
-    Ok(Connection {
-        name,
-        input: Vec::new(alloc),
-        source_fails: Vec::new(alloc),
-        sink_fails: Vec::new(alloc),
-        output: Vec::new(alloc),
-        end,
-    })
-}
-
-/// Takes what a line tells of a connection. Other lines are of the whole conversation.
-fn take_line(alloc: Global, book: &Book, connection: &mut Connection, line: &Line) -> Result<()> {
-    let value = line.value.as_str();
-    match line.key.as_str() {
-        "in" => connection.input = expand(alloc, book, value)?,
-        "out" => connection.output = expand(alloc, book, value)?,
-        "source fails" => connection.source_fails = numbers_in(alloc, value)?,
-        "sink fails" => connection.sink_fails = numbers_in(alloc, value)?,
-        "end" => connection.end = line.value.clone()?,
-        _ => {}
-    }
-    Ok(())
 }
 
 /// Serves the connections, one after another.
@@ -193,30 +155,4 @@ fn source_failing(alloc: Global, connection: &Connection, cutting: Cutting) -> R
     let failing = connection.source_fails.clone()?;
     let source = source_of(alloc, connection.input.as_slice(), failing)?;
     Ok(CutSource { source, cutting })
-}
-
-/// Where a connection's output or end is another than the row tells, if anywhere.
-fn served_otherwise(
-    alloc: Global,
-    connection: &Connection,
-    output: &[u8],
-    end: &str,
-) -> Result<Option<String>> {
-    let part = connection.name.as_str();
-    let found = difference(alloc, part, connection.output.as_slice(), output)?;
-    if found.is_some() {
-        return Ok(found);
-    }
-    difference(alloc, part, connection.end.as_bytes(), end.as_bytes())
-}
-
-fn end_word(end: ServeEnd) -> &'static str {
-    match end {
-        ServeEnd::Ended => "ended",
-        ServeEnd::Closed => "closed",
-        ServeEnd::BrokeOff => "broke off",
-        ServeEnd::ReadFault => "read fault",
-        ServeEnd::WriteFault => "write fault",
-        ServeEnd::NoMemory => "no memory",
-    }
 }
