@@ -7,7 +7,7 @@ use row_files::{Block, Book, Report, Row, blocks_of, expand};
 use std::alloc::Global;
 
 /// Checks the rows of each file of the book whose name begins with `rows`, in turn.
-pub fn check_all<R: Threads + Wait + Sync + Clone + Drop>(rt: &R, alloc: Global, book: &mut Book) -> Result<Report> {
+pub fn check_all<R: Threads + Wait + Sync + Send + Clone + Drop>(rt: &R, alloc: Global, book: &mut Book) -> Result<Report> {
     let mut report = Report::new(alloc);
     let mut rows = Vec::new(alloc);
     let names = book.row_files(alloc)?;
@@ -20,7 +20,7 @@ pub fn check_all<R: Threads + Wait + Sync + Clone + Drop>(rt: &R, alloc: Global,
     Ok(report)
 }
 
-fn check_file<R: Threads + Wait + Sync + Clone + Drop>(
+fn check_file<R: Threads + Wait + Sync + Send + Clone + Drop>(
     rt: &R,
     alloc: Global,
     book: &mut Book,
@@ -43,7 +43,7 @@ fn blocks_in(alloc: Global, book: &Book, name: &str) -> Result<Vec<Block>> {
 }
 
 /// Checks what a block tells, over the rows that stand above it, and keeps it for those below.
-fn check_block<R: Threads + Wait + Sync + Clone + Drop>(
+fn check_block<R: Threads + Wait + Sync + Send + Clone + Drop>(
     rt: &R,
     alloc: Global,
     book: &mut Book,
@@ -66,7 +66,7 @@ fn add_text(alloc: Global, book: &mut Book, block: Block) -> Result<()> {
     book.add(block.name, bytes)
 }
 
-fn check_row<R: Threads + Wait + Sync + Clone + Drop>(rt: &R, alloc: Global, book: &Book, kind: &str, row: &Row, report: &mut Report) -> Result<()> {
+fn check_row<R: Threads + Wait + Sync + Send + Clone + Drop>(rt: &R, alloc: Global, book: &Book, kind: &str, row: &Row, report: &mut Report) -> Result<()> {
     match kind {
         "setting" => Ok(()),
         "run" => report.count(row.name.as_str(), check_run(alloc, book, row)?),

@@ -1,9 +1,13 @@
+ghost use Rattle.std.specs.Prelude.{◌≡◌, All, IfOk, false, true};
+ghost use Rattle.davsvn_run.specs.ServiceRuns.{IsManned};
+ghost use Rattle.davsvn_run.specs.Services.{service};
+
 use crate::connections::{Connection, connection_named, end_word, served_otherwise, take_line};
 use crate::run_rows::{
     clock_of, files_of, keeper_of, kept_differs, sink_of, status_differs, text_differs, words_of,
 };
 use anyhow::{Result, bail};
-use davsvn_run::{Served, run_serve};
+use davsvn_run::{Served, listen_address, run_serve};
 use dsv_base::{Bytes, decimal_text};
 use dsv_outside::{DoorRecord, MemClock, MemDoor, MemFiles, MemKeeper, MemSink};
 use row_files::{Book, Line, Row, difference, numbers_in};
@@ -18,7 +22,7 @@ struct Doorway {
 
 /// Where a row of `serve` differs, if anywhere: connections come in by doors in memory, one worker at each,
 /// and `run_serve` ends when all doors are shut.
-pub fn check_serve<R: Threads + Wait + Sync + Clone + Drop>(
+pub fn check_serve<R: Threads + Wait + Sync + Send + Clone + Drop>(
     rt: &R,
     alloc: Global,
     book: &Book,
@@ -71,7 +75,7 @@ fn take_door_line(alloc: Global, book: &Book, doorway: &mut Doorway, line: &Line
     Ok(())
 }
 
-fn serve<R: Threads + Wait + Sync + Clone + Drop>(
+fn serve<R: Threads + Wait + Sync + Send + Clone + Drop>(
     rt: &R,
     alloc: Global,
     book: &Book,
@@ -84,16 +88,51 @@ fn serve<R: Threads + Wait + Sync + Clone + Drop>(
     let doors = doors_of(alloc, doorways)?;
     let clocks = clocks_of(alloc, row, doorways.len())?;
     let keeper = keeper_of(alloc, row)?;
-    Ok(run_serve(rt, alloc, words.as_slice(), doors, clocks, &mut files, keeper, errors))
+    if !is_manned(words.as_slice(), doors.len(), clocks.len()) {
+        bail!("not as many doors as workers");
+    }
+    Ok(run_serve(
+        alloc,
+        rt,
+        words.as_slice(),
+        doors,
+        clocks,
+        &mut files,
+        keeper,
+        errors,
+    ))
 }
 
-fn doors_of(alloc: Global, doorways: &[Doorway]) -> Result<Vec<MemDoor>> {
+/// Whether there are as many doors and clocks as the words ask for, where they are those of `serve`.
+fn is_manned(words: &[Bytes], doors: usize, clocks: usize) -> bool
+    ensures { result ≡ true → IsManned (service words.now) doors clocks }
+{
+    match listen_address(words) {
+        Some((_host, _port, workers)) => {
+            doors as u64 == u64::from(workers) && clocks as u64 == u64::from(workers)
+        }
+        None => true,
+    }
+}
+
+/// A door in memory for each of these.
+fn doors_of(alloc: Global, doorways: &[Doorway]) -> Result<Vec<MemDoor>>
+    ensures { IfOk result (λ doors. All (λ d. d.door.out ≡ false) doors.items) }
+{
     let mut doors = Vec::new(alloc);
     'doors: for doorway in doorways {
-        let inputs = inputs_of(alloc, doorway)?;
-        doors.push(MemDoor::new(inputs, doorway.fails.clone()?)?)?;
+        let door = door_of(alloc, doorway)?;
+        doors.push(door)?;
     }
     Ok(doors)
+}
+
+fn door_of(alloc: Global, doorway: &Doorway) -> Result<MemDoor>
+    ensures { IfOk result (λ door. door.door.out ≡ false) }
+{
+    let inputs = inputs_of(alloc, doorway)?;
+    let door = MemDoor::new(inputs, doorway.fails.clone()?)?;
+    Ok(door)
 }
 
 fn inputs_of(alloc: Global, doorway: &Doorway) -> Result<Vec<Bytes>> {
