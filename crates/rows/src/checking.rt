@@ -5,6 +5,8 @@ use crate::talks::check_talk;
 use anyhow::{Context, Result, bail};
 use row_files::{Block, Book, Report, Row, blocks_of, expand};
 use std::alloc::Global;
+use std::sync::Wait;
+use std::thread::Threads;
 
 /// Checks the rows of each file of the book whose name begins with `rows`, in turn.
 pub fn check_all<R: Threads + Wait + Sync + Send + Clone + Drop>(rt: &R, alloc: Global, book: &mut Book) -> Result<Report> {

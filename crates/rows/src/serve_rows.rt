@@ -12,6 +12,8 @@ use dsv_base::{Bytes, decimal_text};
 use dsv_outside::{DoorRecord, MemClock, MemDoor, MemFiles, MemKeeper, MemSink};
 use row_files::{Book, Line, Row, difference, numbers_in};
 use std::alloc::Global;
+use std::sync::Wait;
+use std::thread::Threads;
 
 /// A door of a row: the connections that come in by it, in order, and the numbers of its calls that fail.
 #[derive(Drop)]
