@@ -1,3 +1,5 @@
 mod OptionWords
 mod RunLemmas
 mod WholeRuns
+mod DoorsServed
+mod Crossings
