@@ -3,3 +3,4 @@ mod RunLemmas
 mod WholeRuns
 mod DoorsServed
 mod Crossings
+mod ServiceLemmas

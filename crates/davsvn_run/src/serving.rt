@@ -109,7 +109,6 @@ where
 ///
 /// # Errors
 /// Want of memory gives the doors back as they were; no door was asked.
-#[tactic(auto, using(crate::proofs::Crossings::hub_field_send, crate::proofs::Crossings::hub_send))]
 fn serve_inputs<D, C, P, R>(
     alloc: Global,
     rt: &R,
