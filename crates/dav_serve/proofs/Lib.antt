@@ -2,3 +2,5 @@ mod Beginnings
 mod Passed
 mod Progress
 mod Ends
+mod Attending
+mod EachTwo

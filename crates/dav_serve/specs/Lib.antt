@@ -3,3 +3,6 @@ pub mod Points
 pub mod Serves
 pub mod Steps
 pub mod Laws
+pub mod Stations
+pub mod Visits
+pub mod SideBySide

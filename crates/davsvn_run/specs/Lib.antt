@@ -1,6 +1,7 @@
 pub mod Options
 pub mod Commands
 pub mod Words
+pub mod Services
 pub mod Asking
 pub mod Worlds
 pub mod Opening

@@ -3,7 +3,7 @@
 use Rattle.std.specs.Prelude.{ℕ, Bool, false, ◌||◌, List, [], ◌∷◌, Option, None, Some, is_some, codes, if◌then◌else◌}
 use Rattle.std.specs.Str.{bytes_eq}
 use Rattle.davsvn_run.specs.declared.verb.Verb.{Verb}
-use Rattle.davsvn_run.specs.declared.verb.Verb.TheVariants.{Pipe, AccessOf}
+use Rattle.davsvn_run.specs.declared.verb.Verb.TheVariants.{Pipe, AccessOf, Serve}
 
 -- an option with a value
 abbrev pub takes_value : Verb → List ℕ → Bool
@@ -12,11 +12,15 @@ takes_value Pipe name =
 takes_value AccessOf name =
     bytes_eq name (codes "--rules") || bytes_eq name (codes "--repos")
     || bytes_eq name (codes "--user") || bytes_eq name (codes "--is")
+takes_value Serve name =
+    bytes_eq name (codes "--script") || bytes_eq name (codes "--rules") || bytes_eq name (codes "--users")
+    || bytes_eq name (codes "--listen") || bytes_eq name (codes "--workers") || bytes_eq name (codes "--each")
 
 -- an option without one
 abbrev pub stands_alone : Verb → List ℕ → Bool
 stands_alone Pipe name = false
 stands_alone AccessOf name = bytes_eq name (codes "--recursive")
+stands_alone Serve name = false
 
 -- the options that are given, by name and value, in their order
 abbrev pub Given : Type 0

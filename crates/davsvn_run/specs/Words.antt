@@ -1,13 +1,13 @@
 -- What reading the words of the command line gives.
 use Rattle.std.specs.Prelude.{ℕ, ◌≡◌, ◌<◌, true, List, [], Option, None, Some, Result, Ok, Err, is_some, length}
-use Rattle.std.specs.Option.{option_map, option_and_then, option_copied}
+use Rattle.std.specs.Option.{option_map, option_copied}
 use Rattle.davsvn_run.specs.declared.command.Command as declared
 use Rattle.davsvn_run.specs.declared.command.Command.TheVariants as declared_variants
 use Rattle.davsvn_run.specs.declared.command.FileNames as declared_names
 use Rattle.davsvn_run.specs.declared.command.Question as declared_question
 use Rattle.davsvn_run.specs.declared.verb.Verb.{Verb}
 use Rattle.davsvn_run.specs.Options.{with_option, read_options}
-use Rattle.davsvn_run.specs.Commands.{Command, Pipe, AccessOf, FileNames, Question, command}
+use Rattle.davsvn_run.specs.Commands.{Command, Pipe, AccessOf, FileNames, Question}
 
 -- the names of files, as lists
 abbrev pub file_names_in : declared_names.FileNames → FileNames
@@ -32,10 +32,6 @@ command_in (declared_variants.AccessOf question path) = AccessOf (question_in qu
 abbrev pub script_in : Command → Option (List ℕ)
 script_in (Pipe names) = Some names.script
 script_in (AccessOf question path) = None
-
--- the name of the script, where the words are those of a command that has one
-abbrev pub script_of : List (List ℕ) → Option (List ℕ)
-script_of words = option_and_then script_in (command words)
 
 -- the command that is asked for, or want of memory, which comes only where the words are those of one
 abbrev pub ReadsCommand : {E : Type 0} → Option Command → Result (Option declared.Command) E → Type 0

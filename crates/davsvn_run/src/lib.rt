@@ -10,6 +10,8 @@ mod opening;
 mod options;
 mod pipe;
 mod running;
+mod service;
+mod service_words;
 mod status;
 mod unread;
 mod verb;
@@ -18,6 +20,6 @@ mod work;
 mod world;
 
 pub use running::run;
+pub use service_words::{listen_address, script_of};
 pub use status::Status;
-pub use words::script_of;
 pub use world::World;

@@ -31,6 +31,14 @@ fn takes_value(verb: Verb, name: &[u8]) -> bool
                 || name == b"--user".as_slice()
                 || name == b"--is".as_slice()
         }
+        Verb::Serve => {
+            name == b"--script".as_slice()
+                || name == b"--rules".as_slice()
+                || name == b"--users".as_slice()
+                || name == b"--listen".as_slice()
+                || name == b"--workers".as_slice()
+                || name == b"--each".as_slice()
+        }
     }
 }
 
@@ -41,6 +49,7 @@ fn stands_alone(verb: Verb, name: &[u8]) -> bool
     match verb {
         Verb::Pipe => false,
         Verb::AccessOf => name == b"--recursive".as_slice(),
+        Verb::Serve => false,
     }
 }
 

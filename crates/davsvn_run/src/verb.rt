@@ -3,4 +3,5 @@
 pub enum Verb {
     Pipe,
     AccessOf,
+    Serve,
 }

@@ -4,7 +4,7 @@ ghost use Rattle.dsv_base.specs.Names.{is_user_name, is_repository_name};
 ghost use Rattle.davsvn_run.specs.declared.verb.Verb.TheVariants as verbs;
 ghost use Rattle.davsvn_run.specs.Commands.{command, pipe_command, accessof_command, file_names_of, question_of, needed, optional, that, is_file_name, right_named};
 ghost use Rattle.davsvn_run.specs.Options.{read_options};
-ghost use Rattle.davsvn_run.specs.Words.{ReadsCommand, command_in, file_names_in, question_in, script_of};
+ghost use Rattle.davsvn_run.specs.Words.{ReadsCommand, command_in, file_names_in, question_in};
 
 use crate::command::{Command, FileNames, Question};
 use crate::options::{has_double, value_of, words_after};
@@ -33,23 +33,7 @@ pub fn read_words(alloc: Global, words: &[Bytes]) -> Result<Option<Command<'_>>,
     Ok(None)
 }
 
-/// The name of the script, where the words are those of `pipe`.
-pub fn script_of(words: &[Bytes]) -> Option<&[u8]>
-    ensures { option_copied result ≡ script_of words.now }
-{
-    let [verb, words @ ..] = words else {
-        return None;
-    };
-    if verb.get() != b"pipe".as_slice() {
-        return None;
-    }
-    match pipe_command(words) {
-        Some(Command::Pipe(names)) => Some(names.script),
-        _ => None,
-    }
-}
-
-fn pipe_command(words: &[Bytes]) -> Option<Command<'_>>
+pub(crate) fn pipe_command(words: &[Bytes]) -> Option<Command<'_>>
     ensures { option_map command_in result ≡ pipe_command (read_options verbs.Pipe words.now) }
 {
     let [] = words_after(Verb::Pipe, words) else {
@@ -58,7 +42,7 @@ fn pipe_command(words: &[Bytes]) -> Option<Command<'_>>
     if has_double(Verb::Pipe, words) {
         return None;
     }
-    Some(Command::Pipe(file_names_of(words)?))
+    Some(Command::Pipe(file_names_of(Verb::Pipe, words)?))
 }
 
 fn accessof_command(alloc: Global, words: &[Bytes]) -> Result<Option<Command<'_>>, NoMemory>
@@ -80,13 +64,13 @@ fn accessof_command(alloc: Global, words: &[Bytes]) -> Result<Option<Command<'_>
     }
 }
 
-/// The files that the options of `pipe` name.
-fn file_names_of(words: &[Bytes]) -> Option<FileNames<'_>>
-    ensures { option_map file_names_in result ≡ file_names_of (read_options verbs.Pipe words.now).0 }
+/// The files that the options of the command name.
+pub(crate) fn file_names_of(verb: Verb, words: &[Bytes]) -> Option<FileNames<'_>>
+    ensures { option_map file_names_in result ≡ file_names_of (read_options verb words.now).0 }
 {
-    let script = file_name(value_of(Verb::Pipe, words, b"--script"))?;
-    let rules = file_name(value_of(Verb::Pipe, words, b"--rules"))?;
-    let users = file_name(value_of(Verb::Pipe, words, b"--users"))?;
+    let script = file_name(value_of(verb, words, b"--script"))?;
+    let rules = file_name(value_of(verb, words, b"--rules"))?;
+    let users = file_name(value_of(verb, words, b"--users"))?;
     Some(FileNames {
         script,
         rules,
