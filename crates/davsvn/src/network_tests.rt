@@ -1,10 +1,16 @@
+use crate::disk_files::DiskFiles;
 use crate::listening::Listening;
+use crate::script_keeper::ScriptKeeper;
+use crate::serving::stations_of;
+use crate::writing::Writing;
+use davsvn_run::{Status, listen_address, run_serve};
+use dsv_base::Bytes;
 use dsv_outside::{Accepted, Door, Got, Put, ServeEnd, Sink, Source};
 use std::io::{Read, Write};
 use std::net::{Shutdown, TcpListener, TcpStream};
 use std::test::Fail;
-use std::thread;
 use std::time::Duration;
+use std::{fs, io, thread};
 
 /// How long a peer may be silent in these tests.
 fn silence() -> Duration {
@@ -84,5 +90,65 @@ fn a_last_reply_is_taken(rt: HostRuntime) -> Result<(), Fail> {
     assert_eq!(rt; peer.read(&mut room)?, 7);
     assert_eq!(rt; &room[..7], b"refused".as_slice());
     assert_eq!(rt; peer.read(&mut room)?, 0);
+    Ok(())
+}
+
+/// A repository with the file `/a`.
+const SCRIPT: &str = "davsvn-script 1\nrepos demo\nuuid 3f2b1c00-0000-4000-8000-000000000001\n\
+    revision 0 0 0\n\nend\nrevision 1 1 5\nalice\nput 2 3\n/aabc\nend\n";
+
+const WORDS: &str =
+    "serve --script script --rules rules --users users --listen 127.0.0.1:1 --workers 64 --each 1";
+
+const REQUEST: &[u8] = b"GET /svn/demo/a HTTP/1.1\r\n\r\n";
+
+const REPLY: &str = "HTTP/1.1 200 OK\r\nContent-Type: text/plain\r\nContent-Length: 3\r\n\r\nabc";
+
+/// Each of 64 peers asks twice on its connection, all of them before the server begins.
+#[test]
+fn connections_side_by_side(rt: HostRuntime) -> Result<(), Fail> {
+    for (name, text) in [("script", SCRIPT), ("rules", "[/]\n* = r\n"), ("users", "")] {
+        fs::write(&rt, name, text)?;
+    }
+    let mut words = Vec::new(rt.alloc());
+    for word in WORDS.split(' ') {
+        words.push(
+            Bytes::of(rt.alloc(), word.as_bytes())
+                .ok()
+                .ok_or("no memory")?,
+        )?;
+    }
+    let (_, _, number) = listen_address(words.as_slice()).ok_or("the words are none of serve")?;
+    let listener = TcpListener::bind(&rt, "127.0.0.1:0")?;
+    let mut peers = Vec::new(rt.alloc());
+    for _ in 0..number {
+        let mut peer = TcpStream::connect(&rt, listener.local_addr()?)?;
+        peer.write_all(REQUEST)?;
+        peer.write_all(REQUEST)?;
+        peer.shutdown(Shutdown::Write)?;
+        peers.push(peer)?;
+    }
+    let stations = stations_of(&rt, &listener, number, None)?;
+    let mut files = DiskFiles::new(rt.clone()?);
+    let script = Bytes::of(rt.alloc(), b"script").ok().ok_or("no memory")?;
+    let keeper = ScriptKeeper::new(rt.clone()?, script);
+    let served = run_serve(
+        rt.alloc(),
+        &rt,
+        words.as_slice(),
+        stations.doors,
+        stations.clocks,
+        &mut files,
+        keeper,
+        &mut Writing::new(rt.stderr()),
+    );
+    assert_eq!(rt; served.status, Status(0));
+    for peer in peers {
+        let replies = io::read_to_string(rt.alloc(), peer)?;
+        assert_eq!(rt; replies.strip_prefix(REPLY), Some(REPLY));
+    }
+    for name in ["script", "rules", "users"] {
+        fs::remove_file(&rt, name)?;
+    }
     Ok(())
 }

@@ -1,9 +1,12 @@
 ghost use Rattle.std.specs.Prelude.{◌≡◌, ◌<◌, length, false};
+ghost use Rattle.std.specs.Io.{ReadsAtMost};
+ghost use Rattle.std.specs.Io.KnownBytes.{ReadConsumes};
 ghost use Rattle.dsv_outside.specs.Causes.{HasCause, count_after};
 ghost use Rattle.dsv_outside.specs.Sources.{TakesFirst, TellsOver, is_failed_got};
 
 use dsv_outside::{Got, Source};
-use std::io::Read;
+use std::io;
+use std::io::{ErrorKind, Read};
 use std::marker::Model;
 
 /// Any reader of std as a source. It tells what is left where the reader knows it, as one over
@@ -57,7 +60,8 @@ impl<R: Read> Source for Reading<R> {
 
     ghost faults = { λ s. s.faults };
 
-    /// One read of the reader. Once it has given nothing, it isn't asked again.
+    /// One read of the reader, or two where a signal interrupts the first. Once it has given nothing, it
+    /// isn't asked again.
     fn read(&mut self, into: &mut [u8]) -> Got
         requires { 0 < length into.old }
         ensures bytes { TakesFirst (R.remaining self.old.inner) (R.remaining self.new.inner)
@@ -69,7 +73,7 @@ impl<R: Read> Source for Reading<R> {
         if self.over {
             return Got::End;
         }
-        match self.inner.read(into) {
+        match read_again(&mut self.inner, into) {
             Ok(0) => {
                 self.over = true;
                 Got::End
@@ -80,5 +84,17 @@ impl<R: Read> Source for Reading<R> {
                 Got::Failed
             }
         }
+    }
+}
+
+/// One read, and another where a signal interrupted it: a stream that waits for a stated time is
+/// interrupted when its process was stopped and goes on.
+fn read_again<R: Read>(inner: &mut R, into: &mut [u8]) -> io::Result<usize>
+    ensures bound { ReadsAtMost result into.new }
+    ensures bytes { ReadConsumes (R.remaining inner.old) (R.remaining inner.new) result into.new }
+{
+    match inner.read(into) {
+        Err(error) if error.kind() == ErrorKind::Interrupted => inner.read(into),
+        ended => ended,
     }
 }
