@@ -1,9 +1,5 @@
 -- A listener of std as a door.
-<<<<<<< HEAD
 use Rattle.std.specs.Prelude.{ℕ, ◌≡◌, false, List, All, length, Option, None, Some, ⊤}
-=======
-use Rattle.std.specs.Prelude.{ℕ, ◌≡◌, false, List, Option, None, ⊤}
->>>>>>> net
 use Rattle.dsv_outside.specs.DoorStates.{PairState, DoorState}
 use Rattle.dsv_outside.specs.declared.accepted.Accepted.{Accepted}
 use Rattle.dsv_outside.specs.declared.accepted.Accepted.TheVariants.{Pair, End, Failed}
