@@ -30,6 +30,7 @@ pub struct Stations<L, R> {
     pub clocks: Vec<SystemClock<R>>,
 }
 
+#[tactic(auto, using(crate::proofs::Doorways::ready_for))]
 /// Listens where the words of `serve` say. Other words give no station.
 ///
 /// # Errors
@@ -45,17 +46,26 @@ pub fn listen<R: Runtime + Net + AllocGlobal, E: Sink>(
     let Some((host, port, number)) = listen_address(words) else {
         return Ok(no_stations(rt));
     };
-    let host = std::str::from_utf8(host).unwrap_or("");
-    let line = serving_line(rt, words, host, port);
-    let stations = match TcpListener::bind(rt, (host, port)) {
-        Ok(listener) => stations_of(rt, &listener, number, line),
-        Err(error) => Err(error),
-    };
-    match stations {
+    match stations_at(rt, words, host, port, number) {
         Ok(stations) => Ok(stations),
         Err(error) if wants_memory(&error) => Err(Status::NO_MEMORY),
         Err(_) => Err(listen_fault(rt, words, errors)),
     }
+}
+
+/// So many stations at this address, of which the first says that they serve.
+fn stations_at<R: Runtime + Net + AllocGlobal>(
+    rt: &R,
+    words: &[Bytes],
+    host: &[u8],
+    port: u16,
+    number: u32,
+) -> io::Result<Stations<R::Listener, R>>
+    ensures { IfOk result (λ stations. AreReady number stations.doors.items stations.clocks.items) }
+{
+    let host = std::str::from_utf8(host).unwrap_or("");
+    let listener = TcpListener::bind(rt, (host, port))?;
+    stations_of(rt, &listener, number, serving_line(rt, words, host, port))
 }
 
 /// Puts the line of a run that can't listen where the words of `serve` say, and gives its status.
