@@ -4,10 +4,12 @@ use crate::script_keeper::ScriptKeeper;
 use crate::serving::stations_of;
 use crate::writing::Writing;
 use davsvn_run::{Status, listen_address, run_serve};
-use dsv_base::Bytes;
+use dsv_base::{Bytes, NoMemory};
 use dsv_outside::{Accepted, Door, Got, Put, ServeEnd, Sink, Source};
+use std::alloc::Global;
 use std::io::{Read, Write};
-use std::net::{Shutdown, TcpListener, TcpStream};
+use std::net::{Net, OpenStream, Shutdown, SocketAddr, TcpListener, TcpStream};
+use std::process::Abort;
 use std::test::Fail;
 use std::time::Duration;
 use std::{fs, io, thread};
@@ -104,50 +106,71 @@ const REQUEST: &[u8] = b"GET /svn/demo/a HTTP/1.1\r\n\r\n";
 
 const REPLY: &str = "HTTP/1.1 200 OK\r\nContent-Type: text/plain\r\nContent-Length: 3\r\n\r\nabc";
 
-/// Each of 64 peers asks twice on its connection, all of them before the server begins.
-#[test]
-fn connections_side_by_side(rt: HostRuntime) -> Result<(), Fail> {
-    for (name, text) in [("script", SCRIPT), ("rules", "[/]\n* = r\n"), ("users", "")] {
-        fs::write(&rt, name, text)?;
-    }
-    let mut words = Vec::new(rt.alloc());
+const FILES: [(&str, &str); 3] = [("script", SCRIPT), ("rules", "[/]\n* = r\n"), ("users", "")];
+
+fn serve_words(alloc: Global) -> Result<Vec<Bytes>, NoMemory> {
+    let mut words = Vec::new(alloc);
     for word in WORDS.split(' ') {
-        words.push(
-            Bytes::of(rt.alloc(), word.as_bytes())
-                .ok()
-                .ok_or("no memory")?,
-        )?;
+        words.push(Bytes::of(alloc, word.as_bytes())?)?;
     }
-    let (_, _, number) = listen_address(words.as_slice()).ok_or("the words are none of serve")?;
-    let listener = TcpListener::bind(&rt, "127.0.0.1:0")?;
+    Ok(words)
+}
+
+/// So many peers, each of which asks twice.
+fn asking_peers<R: Net + AllocGlobal>(
+    rt: &R,
+    address: SocketAddr,
+    number: u32,
+) -> io::Result<Vec<R::Stream>> {
     let mut peers = Vec::new(rt.alloc());
     for _ in 0..number {
-        let mut peer = TcpStream::connect(&rt, listener.local_addr()?)?;
-        peer.write_all(REQUEST)?;
-        peer.write_all(REQUEST)?;
-        peer.shutdown(Shutdown::Write)?;
-        peers.push(peer)?;
+        peers.push(asking_peer(rt, address)?)?;
     }
+    Ok(peers)
+}
+
+fn asking_peer<R: Net>(rt: &R, address: SocketAddr) -> io::Result<R::Stream> {
+    let mut peer = TcpStream::connect(rt, address)?;
+    peer.write_all(REQUEST)?;
+    peer.write_all(REQUEST)?;
+    peer.shutdown(Shutdown::Write)?;
+    Ok(peer)
+}
+
+/// Each peer gets its two replies, and then the end.
+fn check_replies<R: Abort + AllocGlobal, S: Read + Drop>(rt: &R, peers: Vec<S>) -> io::Result<()> {
+    for peer in peers {
+        let replies = io::read_to_string(rt.alloc(), peer)?;
+        assert_eq!(rt; replies.strip_prefix(REPLY), Some(REPLY));
+    }
+    Ok(())
+}
+
+/// 64 peers ask twice each, all of them before the server begins.
+#[test]
+fn connections_side_by_side(rt: HostRuntime) -> Result<(), Fail> {
+    for (name, text) in FILES {
+        fs::write(&rt, name, text)?;
+    }
+    let words = serve_words(rt.alloc()).ok().ok_or("no memory")?;
+    let (_, _, number) = listen_address(words.as_slice()).ok_or("the words are none of serve")?;
+    let listener = TcpListener::bind(&rt, "127.0.0.1:0")?;
+    let peers = asking_peers(&rt, listener.local_addr()?, number)?;
     let stations = stations_of(&rt, &listener, number, None)?;
-    let mut files = DiskFiles::new(rt.clone()?);
-    let script = Bytes::of(rt.alloc(), b"script").ok().ok_or("no memory")?;
-    let keeper = ScriptKeeper::new(rt.clone()?, script);
+    let keeper = ScriptKeeper::new(rt.clone()?, Bytes::from_vec(Vec::new(rt.alloc())));
     let served = run_serve(
         rt.alloc(),
         &rt,
         words.as_slice(),
         stations.doors,
         stations.clocks,
-        &mut files,
+        &mut DiskFiles::new(rt.clone()?),
         keeper,
         &mut Writing::new(rt.stderr()),
     );
     assert_eq!(rt; served.status, Status(0));
-    for peer in peers {
-        let replies = io::read_to_string(rt.alloc(), peer)?;
-        assert_eq!(rt; replies.strip_prefix(REPLY), Some(REPLY));
-    }
-    for name in ["script", "rules", "users"] {
+    check_replies(&rt, peers)?;
+    for (name, _) in FILES {
         fs::remove_file(&rt, name)?;
     }
     Ok(())
