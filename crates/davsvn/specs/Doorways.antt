@@ -1,8 +1,9 @@
 -- A listener of std as a door.
-use Rattle.std.specs.Prelude.{ℕ, ◌≡◌, false, List, Option, None, ⊤}
+use Rattle.std.specs.Prelude.{ℕ, ◌≡◌, false, List, All, length, Option, None, Some, ⊤}
 use Rattle.dsv_outside.specs.DoorStates.{PairState, DoorState}
 use Rattle.dsv_outside.specs.declared.accepted.Accepted.{Accepted}
 use Rattle.dsv_outside.specs.declared.accepted.Accepted.TheVariants.{Pair, End, Failed}
+use Rattle.davsvn_run.specs.Services.{Service}
 use Rattle.davsvn.specs.AdapterStates.{ReadingState, WritingState, ListeningState}
 
 -- what it tells as a door: it is never shut, and tells neither the connections to come nor those that went back
@@ -30,3 +31,14 @@ abbrev pub IsNewPair : {T : Type 0} → Accepted (ReadingState T) (WritingState 
 IsNewPair (Pair source sink) = IsNewConnection source sink
 IsNewPair End = ⊤
 IsNewPair Failed = ⊤
+
+-- how many stations are asked for, by words that ask for a service or for none
+abbrev pub workers_asked : Option Service → ℕ
+workers_asked None = 0
+workers_asked (Some service) = service.workers
+
+-- the doors and the clocks of so many stations; no door has a connection out
+pub record AreReady {C : Type 0} (number : ℕ) (doors : List ListeningState) (clocks : List C) : Type 0 where
+  pub free : All (λ door. door.out ≡ false) doors
+  pub doors_counted : length doors ≡ number
+  pub clocks_counted : length clocks ≡ number

@@ -90,7 +90,7 @@ fn read_path<R: std::rt::Files + AllocGlobal>(rt: &R, path: &str) -> FileGot
     FileGot::Bytes(Bytes::from_vec(bytes))
 }
 
-fn wants_memory(error: &io::Error) -> bool
+pub fn wants_memory(error: &io::Error) -> bool
     ensures { IsTrue result ↔ (error_kind error.now ≡ ErrorKind.OutOfMemory) }
 {
     error.kind() == ErrorKind::OutOfMemory

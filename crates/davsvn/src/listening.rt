@@ -1,4 +1,4 @@
-ghost use Rattle.std.specs.Prelude.{◌≡◌, IfSome, IfOk, true, false};
+ghost use Rattle.std.specs.Prelude.{◌≡◌, IfSome, IfOk, nat_lt, true, false};
 ghost use Rattle.dsv_outside.specs.Causes.{HasCause, count_after};
 ghost use Rattle.dsv_outside.specs.Doors.{Accepts, is_failed_accept};
 ghost use Rattle.davsvn.specs.Doorways.{IsNewConnection, IsNewPair, door_state, pair_state};
@@ -65,6 +65,13 @@ impl<L, R> Listening<L, R> {
             out: false,
             faults: 0,
         }
+    }
+
+    /// Whether a call of `accept` has failed.
+    pub fn has_failed(&self) -> bool
+        ensures { result ≡ nat_lt 0 self.now.faults }
+    {
+        self.faults > 0
     }
 }
 
