@@ -1,19 +1,19 @@
 -- From stations of the passes of one start to the doors that they served.
-use Rattle.std.proofs.Common.{◌≡◌, ℕ, zero, suc, ◌+◌, ◌<◌, ◌≤◌, ◌==◌, Bool, true, false, List, [], ◌∷◌, ◌++◌, length, map, Option, refl, sym, ap, ◌∙◌, subst, arith, slice_index_or, All}
+use Rattle.std.proofs.Common.{◌≡◌, ℕ, zero, suc, ◌+◌, ◌<◌, ◌≤◌, ◌==◌, Bool, true, false, List, [], ◌∷◌, ◌++◌, length, map, Option, refl, sym, ap, ◌∙◌, subst, arith, slice_index_or}
 use Rattle.std.proofs.lemmas.Bool.{eqb-true}
 use Rattle.std.proofs.lemmas.List.{length-map}
 use Rattle.dsv_outside.specs.DoorStates.{DoorState}
 use Rattle.http_front.specs.declared.user.User.{User}
-use Rattle.dav_machine.specs.Histories.{HistoryEntry, own, IsPrefix, one_if}
+use Rattle.dav_machine.specs.Histories.{HistoryEntry, own, one_if}
 use Rattle.dav_machine.specs.Origins.{Origin}
 use Rattle.dav_serve.specs.declared.station.Station.{Station}
-use Rattle.dav_serve.specs.SideBySide.{OfEachTwo, BecameStation}
+use Rattle.dav_serve.specs.SideBySide.{OfEachTwo}
 use Rattle.dav_serve.specs.Stations.{told_by, turn_of, door_of, StationState}
 use Rattle.dav_serve.specs.Visits.{Stationed}
 use Rattle.hub_turn.specs.Cores.{CoreTold}
-use Rattle.hub_turn.specs.Passes.{PassState, IsStart, passes_from, member_of, members_of, AreOf, OfOneStart, AreFew, EndsOver, Ended}
-use Rattle.hub_turn.specs.Views.{Member, Follow, AllBelow, AllOf, times}
-use Rattle.davsvn_run.specs.ServedDoors.{ServedDoor, ServedEach, ServedDoors, clock_of, limit_of, station_at}
+use Rattle.hub_turn.specs.Passes.{PassState, IsStart, passes_from, members_of, AreOf, OfOneStart, AreFew, EndsOver, Ended}
+use Rattle.hub_turn.specs.Views.{Follow, AllBelow, AllOf, times}
+use Rattle.davsvn_run.specs.ServedDoors.{ServedEach, ServedDoors, clock_of, limit_of}
 
 -- ---- passes
 

@@ -1,5 +1,5 @@
 -- What a run of `serve` says that ends well.
-use Rattle.std.proofs.Common.{◌≡◌, ℕ, List, length, Option, Some, refl, sym, subst, [], ◌∷◌}
+use Rattle.std.proofs.Common.{◌≡◌, ℕ, List, length, Option, Some, refl, sym, subst}
 use Rattle.dsv_outside.specs.DoorStates.{DoorState}
 use Rattle.dav_machine.specs.Hubs.{HubState, new_hub}
 use Rattle.hub_turn.specs.Cores.{hub_told}

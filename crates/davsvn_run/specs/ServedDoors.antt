@@ -5,7 +5,6 @@ use Rattle.http_front.specs.declared.user.User.{User}
 use Rattle.dav_machine.specs.Histories.{HistoryEntry, own, IsPrefix}
 use Rattle.dav_machine.specs.Hubs.{IsHubOf}
 use Rattle.dav_machine.specs.Origins.{Origin}
-use Rattle.dav_machine.specs.States.{State}
 use Rattle.dav_serve.specs.declared.station.Station.{Station}
 use Rattle.dav_serve.specs.Stations.{StationState}
 use Rattle.dav_serve.specs.Visits.{Stationed}

@@ -1,13 +1,12 @@
 -- What a run of `serve` does, by what it is given.
 use Rattle.std.specs.Prelude.{ℕ, ◌≡◌, List, [], Option, None, Some}
 use Rattle.authz_file.specs.declared.rules.Rules.{Rules}
-use Rattle.dsv_outside.specs.Causes.{Rose}
 use Rattle.dsv_outside.specs.DoorStates.{DoorState}
 use Rattle.http_front.specs.declared.user.User.{User}
 use Rattle.dav_machine.specs.Hubs.{HubState}
 use Rattle.dav_machine.specs.States.{opening_state}
 use Rattle.rev_nodes.specs.Trees.{Repository}
-use Rattle.hub_turn.specs.Cores.{CoreTold, hub_told, keeper_told}
+use Rattle.hub_turn.specs.Cores.{hub_told}
 use Rattle.davsvn_run.specs.declared.end.End.{End}
 use Rattle.davsvn_run.specs.declared.end.End.TheVariants as end
 use Rattle.davsvn_run.specs.Opening.{Opens, IsBadFile, IsNextFile}

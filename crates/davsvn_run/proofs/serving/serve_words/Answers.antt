@@ -1,6 +1,6 @@
-use Rattle.std.proofs.Common.{◌≡◌, ◌∙◌, sym, subst, ◌≤◌, ℕ, List, length, Option, None, Some, refl, arith}
-use Rattle.davsvn_run.specs.Services.{Service, service}
-use Rattle.davsvn_run.specs.ServiceRuns.{IsManned, ServeSays}
+use Rattle.std.proofs.Common.{◌≡◌, sym, subst, ◌≤◌, length, Option, arith}
+use Rattle.davsvn_run.specs.Services.{Service}
+use Rattle.davsvn_run.specs.ServiceRuns.{IsManned}
 use Rattle.davsvn_run.proofs.ServiceLemmas.{well_served}
 use Rattle.davsvn_run.proofs.serving.serve_words.Goals as goal
 

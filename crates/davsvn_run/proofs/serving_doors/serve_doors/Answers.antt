@@ -1,7 +1,5 @@
-use Rattle.std.proofs.Common.{rules, ◌≡◌, ◌∙◌, sym, ap, subst, ◌≤◌, ◌+◌, ◌<◌, [], ◌++◌, length, vec_capacity, vec_len, ℕ, List, map, arith, All, false}
-use Rattle.dsv_outside.specs.DoorStates.{DoorState}
+use Rattle.std.proofs.Common.{◌≡◌, ◌∙◌, sym, ap, subst, ◌≤◌, length, vec_capacity, vec_len, ℕ, arith}
 use Rattle.dav_serve.specs.Stations.{door_of, turn_of}
-use Rattle.hub_turn.specs.Passes.{passes_from}
 use Rattle.davsvn_run.specs.ServedDoors.{clock_of, ServedDoors}
 use Rattle.davsvn_run.proofs.DoorsServed.{length_passes, turns_one_start, turns_not_few, doors_served, none_out_of, behind_none, limits_of_none}
 use Rattle.davsvn_run.proofs.serving_doors.serve_doors.Goals as goal
