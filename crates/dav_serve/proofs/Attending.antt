@@ -163,5 +163,6 @@ attended_begun users p none_out = record {
 } where
   same : (a : ℕ) → a ≤ a
   same a = omega arith
+
   none_more : (a : ℕ) → a ≤ last_count → a ≡ min (a + 0) last_count
   none_more a h = omega arith

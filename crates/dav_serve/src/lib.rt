@@ -11,5 +11,5 @@ mod steps;
 pub use dsv_outside::ServeEnd;
 pub use laws::beginnings_are_first;
 pub use serving::serve_connection;
-pub use side_by_side::{serve_all, serve_stations};
+pub use side_by_side::{serve_all, serve_stations, serve_stations_into};
 pub use station::Station;

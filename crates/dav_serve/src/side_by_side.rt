@@ -1,4 +1,4 @@
-ghost use Rattle.std.specs.Prelude.{◌≡◌, ◌+◌, ◌≤◌, ◌++◌, All, false, map, MatchResult, vec_capacity, vec_len};
+ghost use Rattle.std.specs.Prelude.{◌≡◌, ◌+◌, ◌≤◌, ◌++◌, [], All, false, map, MatchResult, vec_capacity, vec_len};
 ghost use Rattle.dsv_outside.specs.DoorStates.{DoorState};
 ghost use Rattle.dav_serve.specs.SideBySide.{EachStation, ServedStations};
 ghost use Rattle.dav_serve.specs.Stations.{door_of, turn_of};
@@ -50,7 +50,7 @@ where
 pub fn serve_stations<T, D, C, R: Threads + Sync>(
     alloc: Global,
     rt: &R,
-    mut stations: Vec<Station<T, D, C>>,
+    stations: Vec<Station<T, D, C>>,
     users: &Users,
 ) -> Result<(Vec<T>, Vec<D>), Vec<Station<T, D, C>>>
 where
@@ -71,8 +71,31 @@ where
         Ok(doors) => doors,
         Err(_) => return Err(stations),
     };
+    Ok(serve_stations_into(alloc, rt, stations, users, turns, doors))
+}
+
+/// The same, without taking memory: the turns and the doors are put into these vectors, which have room
+/// for them and are empty.
+pub fn serve_stations_into<T, D, C, R: Threads + Sync>(
+    alloc: Global,
+    rt: &R,
+    mut stations: Vec<Station<T, D, C>>,
+    users: &Users,
+    turns: Vec<T>,
+    doors: Vec<D>,
+) -> (Vec<T>, Vec<D>)
+where
+    T: Turn + Drop + Send,
+    D: Door + Drop + Send,
+    C: Clock + Drop + Send,
+    requires none_out { All (λ s. (D.state s.door).out ≡ false) stations.items }
+    requires turns { (turns.items ≡ []) × (vec_len stations ≤ vec_capacity turns) }
+    requires doors { (doors.items ≡ []) × (vec_len stations ≤ vec_capacity doors) }
+    ensures { ServedStations T.opening T.pass T.origin T.front D.state D.faults C.readings users.now
+        stations.items result.0.items result.1.items }
+{
     serve_all(alloc, rt, stations.as_mut_slice(), users);
-    Ok(taken_apart(stations, turns, doors))
+    taken_apart(stations, turns, doors)
 }
 
 /// The turns and the doors of the stations, in their order, behind those that were there.

@@ -1,3 +1,6 @@
 mod OptionWords
 mod RunLemmas
 mod WholeRuns
+mod DoorsServed
+mod Crossings
+mod ServiceLemmas

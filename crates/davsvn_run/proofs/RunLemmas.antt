@@ -1,5 +1,5 @@
 -- What the files' ends and serving say of a run of `pipe`, and what a run's end says of its status.
-use Rattle.std.proofs.Common.{◌≡◌, ◌↔◌, ◌⊎◌, ℕ, Bool, List, [], Option, None, Some, Err, refl, sym, ap, ◌∙◌, ◌≤◌, subst, inl, inr}
+use Rattle.std.proofs.Common.{◌≡◌, ◌↔◌, ◌⊎◌, ℕ, List, [], Option, None, Some, Err, refl, sym, ap, ◌∙◌, ◌≤◌, subst, inl, inr}
 use Rattle.std.specs.Prelude.{⊤}
 use Rattle.dsv_outside.specs.Causes.{HasCause, Rose}
 use Rattle.dsv_outside.proofs.Causes.{Rose-earlier}
@@ -13,7 +13,7 @@ use Rattle.davsvn_run.specs.declared.unread.Unread.{Unread}
 use Rattle.davsvn_run.specs.declared.unread.Unread.TheVariants as unread
 use Rattle.davsvn_run.specs.Commands.{Command, Pipe, AccessOf, FileNames, Question}
 use Rattle.davsvn_run.specs.Opening.{IsScript, AreRules, AreNoRules, AreUsers, AreNoUsers, ReadsFile, is_failed_read, end_of, Opens, AreOpen, IsUnopened}
-use Rattle.davsvn_run.specs.Worlds.{Contents, WorldTold, WorldState, IsUnread, IsUnserved, IsUntouched, IsUnreported}
+use Rattle.davsvn_run.specs.Worlds.{Contents, WorldState, IsUnread, IsUnserved, IsUntouched, IsUnreported}
 use Rattle.dsv_outside.specs.declared.serve_end.ServeEnd.{ServeEnd}
 use Rattle.dsv_outside.specs.declared.serve_end.ServeEnd.TheVariants as serve_end
 use Rattle.dav_serve.specs.Serves.{is_read_fault, is_write_fault}

@@ -1,5 +1,5 @@
 -- A run of `pipe` over whole inputs, without a fault, is done or wants memory.
-use Rattle.std.proofs.Common.{◌≡◌, ◌⊎◌, ℕ, ◌+◌, Bool, true, false, List, ◌++◌, Option, None, Some, Result, Ok, Err, refl, sym, ap, ◌∙◌, subst, inl, inr, append-nil}
+use Rattle.std.proofs.Common.{◌≡◌, ◌⊎◌, ℕ, true, false, List, ◌++◌, Option, None, Some, Result, Ok, Err, refl, sym, ap, ◌∙◌, subst, inl, inr, append-nil}
 use Rattle.std.specs.Io.KnownBytes.{Consumes}
 use Rattle.authz_file.specs.declared.rules.Rules.{Rules}
 use Rattle.authz_file.specs.Resolving.{rules_of}

@@ -9,3 +9,5 @@ pub mod Runs
 pub mod Serving
 pub mod Whole
 pub mod Statuses
+pub mod ServedDoors
+pub mod ServiceRuns

@@ -91,7 +91,12 @@ fn serve<S: Source, K: Sink, E: Sink, C: Clock, F: Files, P: Keeper>(
 
 /// The machine over the trees, with the rights that the rules give in them. Want of memory gives the
 /// keeper back.
-fn open_hub<P: Keeper>(alloc: Global, trees: Trees, rules: &Rules, keeper: P) -> Result<Hub<P>, P>
+pub(crate) fn open_hub<P: Keeper>(
+    alloc: Global,
+    trees: Trees,
+    rules: &Rules,
+    keeper: P,
+) -> Result<Hub<P>, P>
     ensures { MatchResult result
         (λ hub. hub ≡ new_hub trees (record { rules = rules.now.list; name = trees.name }) keeper)
         (λ back. back ≡ keeper) }

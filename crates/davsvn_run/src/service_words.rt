@@ -59,7 +59,8 @@ fn script_of_pipe(words: &[Bytes]) -> Option<&[u8]>
 
 /// What the words ask for, where they are those of `serve`.
 pub(crate) fn read_service(words: &[Bytes]) -> Option<Service<'_>>
-    ensures { option_map service_in result ≡ service words.now }
+    ensures value { option_map service_in result ≡ service words.now }
+    ensures bound { IfSome result (λ asked. (1 ≤ asked.workers) × (asked.workers ≤ 64)) }
 {
     let [verb, words @ ..] = words else {
         return None;
@@ -71,7 +72,8 @@ pub(crate) fn read_service(words: &[Bytes]) -> Option<Service<'_>>
 }
 
 fn serve_command(words: &[Bytes]) -> Option<Service<'_>>
-    ensures { option_map service_in result ≡ serve_command (read_options verbs.Serve words.now) }
+    ensures value { option_map service_in result ≡ serve_command (read_options verbs.Serve words.now) }
+    ensures bound { IfSome result (λ asked. (1 ≤ asked.workers) × (asked.workers ≤ 64)) }
 {
     let [] = words_after(Verb::Serve, words) else {
         return None;
@@ -84,7 +86,8 @@ fn serve_command(words: &[Bytes]) -> Option<Service<'_>>
 
 /// What the options of `serve` ask.
 fn service_of(words: &[Bytes]) -> Option<Service<'_>>
-    ensures { option_map service_in result ≡ service_of (read_options verbs.Serve words.now).0 }
+    ensures value { option_map service_in result ≡ service_of (read_options verbs.Serve words.now).0 }
+    ensures bound { IfSome result (λ asked. (1 ≤ asked.workers) × (asked.workers ≤ 64)) }
 {
     let files = file_names_of(Verb::Serve, words)?;
     let (host, port) = address(value_of(Verb::Serve, words, b"--listen"))?;
@@ -94,7 +97,7 @@ fn service_of(words: &[Bytes]) -> Option<Service<'_>>
         files,
         host,
         port,
-        workers: workers.unwrap_or(8),
+        workers,
         each,
     })
 }
@@ -136,13 +139,14 @@ fn has_host_bytes(name: &[u8]) -> bool
         .all(|b| b.is_ascii_alphanumeric() || *b == b'.' || *b == b'-')
 }
 
-/// How many doors are served side by side, where that is told; none where the value isn't 1 to 64.
-fn workers(value: Option<&[u8]>) -> Option<Option<u32>>
-    ensures { result ≡ optional (number_between 1 64) (option_copied value.entry) }
+/// How many doors are served side by side: 8 where that isn't told; none where the value isn't 1 to 64.
+fn workers(value: Option<&[u8]>) -> Option<u32>
+    ensures value { result ≡ option_map workers_told (optional (number_between 1 64) (option_copied value.entry)) }
+    ensures bound { IfSome result (λ workers. (1 ≤ workers) × (workers ≤ 64)) }
 {
     match value {
-        None => Some(None),
-        Some(text) => Some(Some(number_between(text, 1, 64)? as u32)),
+        None => Some(8),
+        Some(text) => Some(number_between(text, 1, 64)? as u32),
     }
 }
 
@@ -161,7 +165,7 @@ fn each(value: Option<&[u8]>) -> Option<Option<u32>>
 #[tactic(auto, unfolding(crate::specs::Services::number_between))]
 fn number_between(text: &[u8], least: u64, most: u64) -> Option<u64>
     ensures value { result ≡ number_between least most text.now }
-    ensures bound { IfSome result (λ n. n ≤ most) }
+    ensures bound { IfSome result (λ n. (least ≤ n) × (n ≤ most)) }
 {
     match read_decimal(text, most) {
         Some(number) if least <= number => Some(number),

@@ -11,5 +11,5 @@ returns g c =
     let count : length c.for_each_mut.new.s ≡ length c.args.stations.now = search rules in
     of_each_two became c.args.stations.now c.for_each_mut.new.s count
     (λ i d below. let change = (c.for_each_mut.ensures i d below).1 in
-        let call : became change.argument.now change.after_call.now = search rules in
-        subst (λ x. became x (slice_index_or c.for_each_mut.new.s i d)) change.argument_is (subst (λ y. became change.argument.now y) change.left call))
+    let call : became change.argument.now change.after_call.now = search rules in
+    subst (λ x. became x (slice_index_or c.for_each_mut.new.s i d)) change.argument_is (subst (λ y. became change.argument.now y) change.left call))

@@ -1,0 +1,9 @@
+pub mod Cores
+pub mod Views
+pub mod Rule
+pub mod Plays
+pub mod Starts
+pub mod Passes
+pub mod Holding
+pub mod Rooms
+pub mod Gatherings
