@@ -17,7 +17,7 @@ module _ {P D C : Type 0} (faults : P → ℕ) (kept : P → Option (List (ℕ �
       → words ≡ Some asked → length doors ≡ asked.workers
       → Opens contents asked.files (repository_of inputs.trees) inputs.rules inputs.users
       → ServedDoors (hub_told faults kept) state door_faults readings inputs.users asked.each (length doors)
-          (new_hub inputs.trees (record { rules = inputs.rules.list; name = inputs.trees.name }) keeper) doors clocks others hub
+      (new_hub inputs.trees (record { rules = inputs.rules.list; name = inputs.trees.name }) keeper) doors clocks others hub
       → ServeSays faults kept state door_faults readings words contents rose keeper doors clocks others (Some hub) end.Well
   well_served words asked contents rose keeper doors clocks others hub inputs is manned opens served =
       let opened : HubState P = new_hub inputs.trees (record { rules = inputs.rules.list; name = inputs.trees.name }) keeper in

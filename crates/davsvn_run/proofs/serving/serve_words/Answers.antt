@@ -22,4 +22,4 @@ pub returns-in-Ok-serve_inputs-clause-says : goal.returns-in-Ok-serve_inputs-cla
 returns-in-Ok-serve_inputs-clause-says g c =
     let manned = subst (λ (s : Option Service). IsManned s (length c.args.doors.items) (length c.args.clocks.items)) (sym c.in-Some.ensures.value) c.requires.manned in
     well_served g.P.Keeper.faults g.P.Keeper.kept g.D.Door.state g.D.Door.faults g.C.Clock.readings _ _ _ _ c.args.keeper c.args.doors.items c.args.clocks.items c.in-Ok-serve_inputs.doors.items c.in-Ok-serve_inputs.hub c.in-Ok.inputs
-        (sym c.in-Some.ensures.value) manned.0 c.in-Ok.ensures.says c.in-Ok-serve_inputs.ensures
+    (sym c.in-Some.ensures.value) manned.0 c.in-Ok.ensures.says c.in-Ok-serve_inputs.ensures
