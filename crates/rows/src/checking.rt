@@ -9,7 +9,11 @@ use std::sync::Wait;
 use std::thread::Threads;
 
 /// Checks the rows of each file of the book whose name begins with `rows`, in turn.
-pub fn check_all<R: Threads + Wait + Sync + Send + Clone + Drop>(rt: &R, alloc: Global, book: &mut Book) -> Result<Report> {
+pub fn check_all<R: Threads + Wait + Sync + Send + Clone + Drop>(
+    rt: &R,
+    alloc: Global,
+    book: &mut Book,
+) -> Result<Report> {
     let mut report = Report::new(alloc);
     let mut rows = Vec::new(alloc);
     let names = book.row_files(alloc)?;
@@ -68,7 +72,14 @@ fn add_text(alloc: Global, book: &mut Book, block: Block) -> Result<()> {
     book.add(block.name, bytes)
 }
 
-fn check_row<R: Threads + Wait + Sync + Send + Clone + Drop>(rt: &R, alloc: Global, book: &Book, kind: &str, row: &Row, report: &mut Report) -> Result<()> {
+fn check_row<R: Threads + Wait + Sync + Send + Clone + Drop>(
+    rt: &R,
+    alloc: Global,
+    book: &Book,
+    kind: &str,
+    row: &Row,
+    report: &mut Report,
+) -> Result<()> {
     match kind {
         "setting" => Ok(()),
         "run" => report.count(row.name.as_str(), check_run(alloc, book, row)?),

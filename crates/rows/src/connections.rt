@@ -29,7 +29,12 @@ pub fn connection_named(alloc: Global, name: &str) -> Result<Connection> {
 }
 
 /// Takes what a line tells of a connection. Other lines are of the whole row.
-pub fn take_line(alloc: Global, book: &Book, connection: &mut Connection, line: &Line) -> Result<()> {
+pub fn take_line(
+    alloc: Global,
+    book: &Book,
+    connection: &mut Connection,
+    line: &Line,
+) -> Result<()> {
     let value = line.value.as_str();
     match line.key.as_str() {
         "in" => connection.input = expand(alloc, book, value)?,
