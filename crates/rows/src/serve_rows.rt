@@ -210,12 +210,17 @@ fn hub_differs(
     row: &Row,
     served: Served<MemDoor, MemKeeper>,
 ) -> Result<Option<String>> {
-    match served.hub {
+    let Served {
+        status,
+        doors: _,
+        hub,
+    } = served;
+    match hub {
         Some(hub) => {
             let (_, keeper) = hub.end();
             kept_differs(alloc, book, row, keeper.kept())
         }
-        None if served.status.0 == 0 => bail!("the hub is lost"),
+        None if status.0 == 0 => bail!("the hub is lost"),
         None => Ok(None),
     }
 }
