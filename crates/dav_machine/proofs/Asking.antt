@@ -41,7 +41,7 @@ module _ (present : PresentState) (user : Option (List ℕ)) where
 
   -- .. as the aim of what is asked for names both
   pub aimed_askable : (asked : Asked) (resource : Resource) → MayRead present user (aim_of asked resource).path → IsThere (length present.trees.revisions) (aim_of asked resource).meant → IsAskable (sight_to present user) resource
-  aimed_askable Options resource readable there = askable resource readable there
+  aimed_askable (Options client) resource readable there = askable resource readable there
   aimed_askable Get resource readable there = askable resource readable there
   aimed_askable Head resource readable there = askable resource readable there
   aimed_askable (Propfind children wanted) resource readable there = askable resource readable there

@@ -7,6 +7,7 @@ use Rattle.dsv_base.specs.declared.reply.Reply.{Reply}
 use Rattle.dav_names.specs.declared.resource.Resource.{Resource}
 use Rattle.dav_names.specs.Targets.{root_of}
 use Rattle.dav_replies.specs.Faults.{refusal_no_memory}
+use Rattle.dav_replies.specs.declared.client.Client.{Client}
 use Rattle.dav_replies.specs.declared.refusal.Refusal.{Refusal}
 use Rattle.dav_replies.specs.declared.refusal.Refusal.TheVariants.{NoNode}
 use Rattle.rev_nodes.specs.declared.node.Node.{Node}
@@ -16,16 +17,16 @@ use Rattle.authz_file.specs.declared.rule.Rule.{Rule}
 use Rattle.authz_check.specs.Access.{can_read}
 use Rattle.log_access.specs.Shown.{shown_node, shown_of}
 use Rattle.log_access.proofs.ShownNodes.{nothing_at, place_with, node_in-shown}
-use Rattle.dav_machine.specs.Replies.{options_reply}
+use Rattle.dav_machine.specs.Options.{options_reply}
 use Rattle.dav_machine.specs.ReadReplies.{or_no_node, node_reply, get_reply}
 
 -- the youngest revision that is shown is the youngest there is
-pub options_shown : (trees : Forest) (rules : List Rule) (user : Option (List ℕ)) (result : Result Reply Refusal)
-    → Gives refusal_no_memory result (Ok (options_reply (root_of trees.name) trees.uuid (length trees.revisions - 1)))
-    → Gives refusal_no_memory result (Ok (options_reply (root_of (shown_of (repository_of trees) rules user).name) (shown_of (repository_of trees) rules user).uuid (shown_of (repository_of trees) rules user).youngest))
+pub options_shown : (client : Client) (trees : Forest) (rules : List Rule) (user : Option (List ℕ)) (result : Result Reply Refusal)
+    → Gives refusal_no_memory result (Ok (options_reply client (root_of trees.name) trees.uuid (length trees.revisions - 1)))
+    → Gives refusal_no_memory result (Ok (options_reply client (root_of (shown_of (repository_of trees) rules user).name) (shown_of (repository_of trees) rules user).uuid (shown_of (repository_of trees) rules user).youngest))
 unfolding shown_of
-options_shown trees rules user result told =
-    subst (λ (n : ℕ). Gives refusal_no_memory result (Ok (options_reply (root_of trees.name) trees.uuid n))) (ap (λ (n : ℕ). n - 1) (sym (length-map trees.revisions without_numbers))) told
+options_shown client trees rules user result told =
+    subst (λ (n : ℕ). Gives refusal_no_memory result (Ok (options_reply client (root_of trees.name) trees.uuid n))) (ap (λ (n : ℕ). n - 1) (sym (length-map trees.revisions without_numbers))) told
 
 module _ (trees : Forest) (rules : List Rule) (user : Option (List ℕ)) (rev : ℕ) (path : List ℕ) (resource : Resource) where
   pub get_missing : (other : Forest) → other ≡ trees → can_read rules trees.name user path ≡ true → None ≡ id_at other rev path → get_reply (shown_of (repository_of trees) rules user) resource rev path ≡ Err NoNode

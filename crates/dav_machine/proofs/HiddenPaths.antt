@@ -20,7 +20,7 @@ use Rattle.dav_machine.specs.Chains.{or_bad_target, kind_of, by_method, by_heade
 use Rattle.dav_machine.specs.Laws.{path_asked}
 
 aims : (asked : Asked) (resource : Resource) → (aim_of asked resource).path ≡ path_in resource
-aims Options resource = refl
+aims (Options client) resource = refl
 aims Get resource = refl
 aims Head resource = refl
 aims (Propfind children wanted) resource = refl

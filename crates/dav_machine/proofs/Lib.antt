@@ -6,4 +6,5 @@ pub mod Talking
 pub mod Turning
 mod Acting
 mod Refused
+mod Agents
 mod HiddenPaths

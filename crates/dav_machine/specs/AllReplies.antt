@@ -7,10 +7,12 @@ use Rattle.http_front.specs.declared.request.Request.{Request}
 use Rattle.dav_replies.specs.Methods.{method_of}
 use Rattle.dav_replies.specs.Refusals.{refusal_reply}
 use Rattle.dav_replies.specs.Replies.{reply_text}
+use Rattle.dav_replies.specs.declared.client.Client.{Client}
 use Rattle.dav_replies.specs.declared.method.Method.{Method}
 use Rattle.dav_replies.specs.declared.method.Method.TheVariants.{Options, Get, Head, Propfind, Report, Post, Put, Mkcol, Proppatch, Delete, Copy, Merge, Lock, Unlock}
 use Rattle.dav_replies.specs.declared.refusal.Refusal.{Refusal}
 use Rattle.dav_machine.specs.declared.effect.Effect.{Effect}
+use Rattle.dav_machine.specs.Clients.{client_of}
 use Rattle.dav_machine.specs.Chains.{Permit, permitted, viewer, is_head}
 use Rattle.dav_machine.specs.ReadReplies.{read_answer}
 use Rattle.dav_machine.specs.States.{State}
@@ -58,19 +60,19 @@ answered state request moment kept =
     permitted state.repository.name state.rules request
     >>= (λ permit. answer state (viewer request.login) permit moment kept)
 
--- a refusal is told, and changes nothing
-abbrev pub or_refusal : Result (Reply × Option Effect) Refusal → Reply × Option Effect
-or_refusal (Ok done) = done
-or_refusal (Err refusal) = (refusal_reply refusal, None)
+-- a refusal is told as the client is told it, and changes nothing
+abbrev pub or_refusal : Client → Result (Reply × Option Effect) Refusal → Reply × Option Effect
+or_refusal client (Ok done) = done
+or_refusal client (Err refusal) = (refusal_reply client refusal, None)
 
 -- the reply to a request at a moment, and what the request changes, as the keeper keeps it or doesn't
 unfoldable pub reply_to : State → Request → ℕ → Bool → Reply × Option Effect
-reply_to state request moment kept = or_refusal (answered state request moment kept)
+reply_to state request moment kept = or_refusal (client_of request) (answered state request moment kept)
 
 -- the reply to a reading request, as a function of what the user may see: nothing else is among its arguments
 abbrev pub read_reply : View → Request → Reply × Option Effect
 read_reply view request =
-    or_refusal
+    or_refusal (client_of request)
     (permitted view.shown.name view.shown.rules request >>= (λ permit. unchanging (read_answer view permit)))
 
 -- the bytes of a reply to a request

@@ -30,6 +30,7 @@ use Rattle.dav_machine.specs.declared.asked.Asked.{Asked}
 use Rattle.dav_machine.specs.declared.asked.Asked.TheVariants as ask
 use Rattle.dav_machine.specs.declared.headed.Headed.{Headed}
 use Rattle.dav_machine.specs.declared.headed.Headed.TheVariants as headed
+use Rattle.dav_machine.specs.Clients.{client_of}
 use Rattle.dav_machine.specs.Depths.{depth_of, children_asked}
 
 -- ---- target
@@ -115,7 +116,7 @@ propfind_asked children (Err faults.NoMemory) = Err NoMemory
 
 -- what is asked for, by what the headers and the body say; only the body of a PROPFIND is looked at
 abbrev pub by_body : Headed → Request → Result Asked Refusal
-by_body headed.Options request = Ok ask.Options
+by_body headed.Options request = Ok (ask.Options (client_of request))
 by_body headed.Get request = Ok ask.Get
 by_body headed.Head request = Ok ask.Head
 by_body (headed.Propfind children) request = propfind_asked children (body_read kinds.Propfind request.body)
@@ -157,7 +158,7 @@ target_aim resource = record {
 
 -- the aim of what is asked for
 abbrev pub aim_of : Asked → Resource → Aim
-aim_of ask.Options resource = target_aim resource
+aim_of (ask.Options client) resource = target_aim resource
 aim_of ask.Get resource = target_aim resource
 aim_of ask.Head resource = target_aim resource
 aim_of (ask.Propfind children wanted) resource = target_aim resource

@@ -1,14 +1,17 @@
 -- What holds of all replies.
 use Rattle.std.specs.Prelude.{ℕ, ◌≡◌, Bool, true, false, List, Option, Some, Err}
 use Rattle.std.specs.Option.{option_and_then, option_map_or}
+use Rattle.dsv_base.specs.declared.reply.Reply.{Reply}
 use Rattle.http_front.specs.declared.request.Request.{Request}
 use Rattle.authz_check.specs.Access.{can_read}
 use Rattle.dav_names.specs.Targets.{target, root_of}
 use Rattle.dav_replies.specs.Methods.{method_of}
+use Rattle.dav_replies.specs.declared.client.Client.TheVariants.{Plain}
 use Rattle.dav_replies.specs.declared.method.Method.{Method}
 use Rattle.dav_replies.specs.declared.method.Method.TheVariants.{Options, Get, Head, Propfind}
 use Rattle.dav_replies.specs.declared.refusal.Refusal.{Refusal}
-use Rattle.dav_machine.specs.AllReplies.{is_reading, reply_to, read_reply}
+use Rattle.dav_machine.specs.AllReplies.{is_reading, reply_to, read_reply, written}
+use Rattle.dav_machine.specs.Clients.{client_of, without_agent}
 use Rattle.dav_machine.specs.Chains.{permitted, viewer, path_in}
 use Rattle.dav_machine.specs.States.{State}
 use Rattle.dav_machine.specs.Views.{view_of}
@@ -62,3 +65,12 @@ HiddenAnsweredAlike =
     → path_asked one.repository.name request ≡ Some path
     → can_read one.rules one.repository.name (viewer request.login) path ≡ false
     → reply_to one request moment kept ≡ reply_to other request later held
+
+-- a request whose client isn't one of Subversion's is answered as the same request that doesn't tell its client is: it has
+-- the same effect, and not a byte of its reply differs
+abbrev pub PlainAnsweredAlike : Type 0
+PlainAnsweredAlike =
+    (state : State) (request : Request) (moment : ℕ) (kept : Bool)
+    → client_of request ≡ Plain
+    → (reply_to state request moment kept ≡ reply_to state (without_agent request) moment kept)
+    × ((reply : Reply) → written reply request ≡ written reply (without_agent request))

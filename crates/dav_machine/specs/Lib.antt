@@ -4,7 +4,9 @@ pub mod Presents
 pub mod Media
 pub mod Listings
 pub mod ShownEntries
+pub mod Clients
 pub mod Replies
+pub mod Options
 pub mod Depths
 pub mod Chains
 pub mod ReadReplies

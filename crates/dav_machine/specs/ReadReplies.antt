@@ -23,7 +23,8 @@ use Rattle.dav_machine.specs.declared.asked.Asked.TheVariants.{Options, Get, Hea
 use Rattle.dav_machine.specs.Chains.{Aim, Permit, aim_of}
 use Rattle.dav_machine.specs.Listings.{listing_text, children_in}
 use Rattle.dav_machine.specs.Media.{media_type}
-use Rattle.dav_machine.specs.Replies.{content_reply, html_type, options_reply}
+use Rattle.dav_machine.specs.Options.{options_reply}
+use Rattle.dav_machine.specs.Replies.{content_reply, html_type}
 use Rattle.dav_machine.specs.Views.{View}
 
 -- ---- revision
@@ -82,8 +83,8 @@ propfind_reply (Err faults.NoMemory) = Err NoMemory
 
 -- what is answered of this revision and path
 abbrev pub asked_reply : View → Asked → Resource → ℕ → Option (List ℕ) → Result Reply Refusal
-asked_reply view Options resource rev path =
-    Ok (options_reply (root_of view.shown.name) view.shown.uuid view.shown.youngest)
+asked_reply view (Options client) resource rev path =
+    Ok (options_reply client (root_of view.shown.name) view.shown.uuid view.shown.youngest)
 asked_reply view Get resource rev path = content_at view.shown resource rev path
 asked_reply view Head resource rev path = content_at view.shown resource rev path
 asked_reply view (Propfind children wanted) resource rev path =

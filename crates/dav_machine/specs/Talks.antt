@@ -9,6 +9,7 @@ use Rattle.dav_machine.specs.declared.outgoing.Outgoing.{Outgoing}
 use Rattle.dav_machine.specs.declared.outgoing.Outgoing.TheVariants as outgoing
 use Rattle.dav_machine.specs.Histories.{HistoryEntry}
 use Rattle.dav_machine.specs.Chains.{is_head}
+use Rattle.dav_machine.specs.Clients.{client_of}
 use Rattle.dav_machine.specs.States.{State}
 use Rattle.dav_machine.specs.Turns.{Turned}
 
@@ -19,7 +20,7 @@ call_of pass request moment = record { pass = pass; request = request; moment = 
 -- what is sent for an answer: its bytes, or the reply for want of memory
 abbrev pub output_of : Request → Outgoing → List ℕ
 output_of request (outgoing.Bytes bytes) = bytes
-output_of request outgoing.NoMemory = refusal_bytes NoMemory (is_head request) request.last
+output_of request outgoing.NoMemory = refusal_bytes (client_of request) NoMemory (is_head request) request.last
 
 -- these requests at these moments have these outputs, between the history at the last call's point before
 -- them and that at the last one's

@@ -22,7 +22,7 @@ pub fn aim_of<'a>(asked: &Asked, resource: &'a Resource) -> Aim<'a>
     ensures meant { result.revision ≡ (aim_of asked.now resource.now).meant }
 {
     match asked {
-        Asked::Options => target_aim(resource),
+        Asked::Options { .. } => target_aim(resource),
         Asked::Get => target_aim(resource),
         Asked::Head => target_aim(resource),
         Asked::Propfind { .. } => target_aim(resource),

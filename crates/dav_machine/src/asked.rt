@@ -1,11 +1,13 @@
 use dav_bodies::Wanted;
+use dav_replies::Client;
 
 /// What a request asks for: one variant for each method that is answered yet, with what its headers and
 /// its body say.
 #[derive(Debug, Drop)]
 pub enum Asked {
-    /// What the server can do, and where its resources are (RFC 9110, section 9.3.7).
-    Options,
+    /// What the server can do, and where its resources are (RFC 9110, section 9.3.7), as this client is
+    /// told it.
+    Options { client: Client },
     /// The content of a node (section 9.3.1).
     Get,
     /// The same without the content (section 9.3.2).

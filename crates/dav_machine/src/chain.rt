@@ -12,6 +12,7 @@ ghost use Rattle.dav_machine.specs.Presents.{MayRead};
 
 use crate::aim::aim_of;
 use crate::asked::Asked;
+use crate::client::client_of;
 use crate::depth::Depth;
 use crate::headed::Headed;
 use crate::present::Present;
@@ -151,7 +152,9 @@ fn by_body(alloc: Global, headed: Headed, request: &Request) -> Result<Asked, Re
     ensures { Gives refusal_no_memory result (by_body headed request.now) }
 {
     match headed {
-        Headed::Options => Ok(Asked::Options),
+        Headed::Options => Ok(Asked::Options {
+            client: client_of(request),
+        }),
         Headed::Get => Ok(Asked::Get),
         Headed::Head => Ok(Asked::Head),
         Headed::Propfind { children } => propfind_asked(alloc, children, request.body.get()),

@@ -1,4 +1,4 @@
-ghost use Rattle.dav_machine.specs.Laws.{ReadByTheView, ShownAlikeAnsweredAlike, RefusedAlike, HiddenAnsweredAlike};
+ghost use Rattle.dav_machine.specs.Laws.{ReadByTheView, ShownAlikeAnsweredAlike, RefusedAlike, HiddenAnsweredAlike, PlainAnsweredAlike};
 
 /// The reply to a reading request is a function of what the state shows to its user, and of the request.
 pub fn read_by_the_view()
@@ -20,4 +20,9 @@ pub fn refused_alike()
 /// any two states of the same name and rules, whatever stands there or anywhere else.
 pub fn hidden_answered_alike()
     ensures { HiddenAnsweredAlike }
+{}
+
+/// A request whose client isn't one of Subversion's is answered as if it didn't tell its client.
+pub fn plain_answered_alike()
+    ensures { PlainAnsweredAlike }
 {}

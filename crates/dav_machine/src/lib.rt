@@ -8,6 +8,7 @@ mod asked;
 mod asked_path;
 mod call;
 mod chain;
+mod client;
 mod depth;
 mod effect;
 mod event;
@@ -16,6 +17,7 @@ mod hub;
 mod laws;
 mod listing;
 mod media;
+mod options;
 mod outgoing;
 mod present;
 mod properties;
@@ -28,11 +30,13 @@ mod turn;
 pub use answer::Answer;
 pub use call::Call;
 pub use chain::is_head;
+pub use client::client_of;
 pub use effect::Effect;
 pub use event::Event;
 pub use hub::Hub;
 pub use laws::{
-    hidden_answered_alike, read_by_the_view, refused_alike, shown_alike_answered_alike,
+    hidden_answered_alike, plain_answered_alike, read_by_the_view, refused_alike,
+    shown_alike_answered_alike,
 };
 pub use outgoing::Outgoing;
 pub use solo::Solo;

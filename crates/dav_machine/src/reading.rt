@@ -7,7 +7,7 @@ ghost use Rattle.dav_replies.specs.Replies.{IsWritable};
 ghost use Rattle.dav_machine.specs.Chains.{aim_of, permit_of};
 ghost use Rattle.prop_requests.specs.Sights.{IsAskable};
 ghost use Rattle.dav_machine.specs.Presents.{root_in, may_read, sight_to, IsThere, MayRead, shown_to, view_to};
-ghost use Rattle.dav_machine.specs.Replies.{options_reply};
+ghost use Rattle.dav_machine.specs.Options.{options_reply};
 ghost use Rattle.dav_machine.specs.ReadReplies.{read_answer, asked_reply, content_at, get_reply, by_revisions};
 
 use crate::aim::aim_of;
@@ -15,11 +15,12 @@ use crate::asked::Asked;
 use crate::asked_path::AskedPath;
 use crate::listing::listing;
 use crate::media::media_type;
+use crate::options::options_reply;
 use crate::present::Present;
 use crate::properties::propfind_reply;
-use crate::replies::{content_reply, options_reply};
+use crate::replies::content_reply;
 use dav_names::Resource;
-use dav_replies::Refusal;
+use dav_replies::{Client, Refusal};
 use dsv_base::{Path, Reply, Rev};
 use rev_nodes::{Kind, NodeId};
 use rev_trees::Trees;
@@ -84,7 +85,7 @@ fn asked_reply(
     ensures writable { IfOk result IsWritable }
 {
     match asked {
-        Asked::Options => what_the_server_can(alloc, present),
+        Asked::Options { client } => what_the_server_can(alloc, present, *client),
         Asked::Get => content_at(alloc, present, user, resource, rev, path),
         Asked::Head => content_at(alloc, present, user, resource, rev, path),
         Asked::Propfind { children, wanted } => {
@@ -94,14 +95,20 @@ fn asked_reply(
 }
 
 /// What the server can do, and where its resources are.
-fn what_the_server_can(alloc: Global, present: &Present) -> Result<Reply, Refusal>
+fn what_the_server_can(alloc: Global, present: &Present, client: Client) -> Result<Reply, Refusal>
     ensures value { Gives refusal_no_memory result
-        (Ok (options_reply (root_in present.now) present.now.trees.uuid
+        (Ok (options_reply client (root_in present.now) present.now.trees.uuid
         (length present.now.trees.revisions - 1))) }
     ensures writable { IfOk result IsWritable }
 {
     let trees = present.trees();
-    Ok(options_reply(alloc, present.root(), trees.uuid(), trees.youngest())?)
+    Ok(options_reply(
+        alloc,
+        client,
+        present.root(),
+        trees.uuid(),
+        trees.youngest(),
+    )?)
 }
 
 /// The content of the node at the path, where the resource names one.

@@ -6,6 +6,7 @@ ghost use Rattle.dav_machine.specs.AllReplies.{answered, reply_to};
 ghost use Rattle.dav_machine.specs.Presents.{state_of};
 
 use crate::chain::permitted;
+use crate::client::client_of;
 use crate::present::Present;
 use crate::reading::read_answer;
 use dav_replies::{Refusal, refusal_reply};
@@ -28,7 +29,7 @@ pub fn reply_to(alloc: Global, present: &Present, request: &Request) -> Result<R
     match answered(alloc, present, request) {
         Ok(reply) => Ok(reply),
         Err(Refusal::NoMemory) => Err(NoMemory),
-        Err(refusal) => refusal_reply(alloc, &refusal),
+        Err(refusal) => refusal_reply(alloc, client_of(request), &refusal),
     }
 }
 

@@ -7,10 +7,11 @@ use Rattle.dav_documents.specs.Namespaces.{uri_of}
 use Rattle.dav_documents.specs.Written.{Written, Nothing, attribute, binding, empty_element, text_element, element, joined, body_text}
 use Rattle.dsv_base.specs.declared.field.Field.{Field}
 use Rattle.dsv_base.specs.declared.reply.Reply.{Reply}
+use Rattle.dav_replies.specs.declared.client.Client.{Client}
 use Rattle.dav_replies.specs.declared.refusal.Refusal.{Refusal}
 use Rattle.dav_replies.specs.declared.refusal.Refusal.TheVariants.{NeedsLogin, InfiniteDepth, NoRevision, WrongMethod, Exists, OutOfDate, Conflict, WrongText, Locked, NotInProfile}
 use Rattle.dav_replies.specs.Methods.{allow_list}
-use Rattle.dav_replies.specs.Tables.{row_of, form_name}
+use Rattle.dav_replies.specs.Tables.{row_of, form_name, code_for}
 use Rattle.dav_replies.specs.Replies.{field_of, xml_type, reply_text}
 
 -- the sum that was told and that of the text, in hexadecimal
@@ -41,19 +42,19 @@ abbrev pub condition_of : Refusal → Written
 condition_of InfiniteDepth = empty_element (codes "D:propfind-finite-depth") []
 condition_of _ = Nothing
 
--- the element for the reader: the code as an attribute, and the text
-abbrev pub human_readable : Refusal → Written
-human_readable refusal = text_element (codes "m:human-readable") (attribute (codes "errcode") (decimal (row_of refusal).code) ∷ []) (text_of refusal)
+-- the element for the reader: the code for this client as an attribute, and the text
+abbrev pub human_readable : Client → Refusal → Written
+human_readable client refusal = text_element (codes "m:human-readable") (attribute (codes "errcode") (decimal (code_for client refusal)) ∷ []) (text_of refusal)
 
--- the document that tells a refusal
-abbrev pub error_tree : Refusal → Written
-error_tree refusal =
+-- the document that tells a client a refusal
+abbrev pub error_tree : Client → Refusal → Written
+error_tree client refusal =
     element (codes "D:error") (binding (codes "D") (uri_of Dav) ∷ binding (codes "m") (uri_of ApacheDav) ∷ [])
-    (joined (condition_of refusal) (human_readable refusal))
+    (joined (condition_of refusal) (human_readable client refusal))
 
 -- the bytes of that document
-unfoldable pub error_text : Refusal → List ℕ
-error_text refusal = body_text (error_tree refusal)
+unfoldable pub error_text : Client → Refusal → List ℕ
+error_text client refusal = body_text (error_tree client refusal)
 
 -- who isn't logged in is asked for a login (RFC 7617); who used a wrong method is told the right ones (RFC 9110, section 15.5.6)
 abbrev pub own_fields : Refusal → List Field
@@ -62,16 +63,16 @@ own_fields (WrongMethod kind) = field_of (codes "Allow") (allow_list kind) ∷ [
 own_fields (Exists kind) = field_of (codes "Allow") (allow_list kind) ∷ []
 own_fields _ = []
 
--- the reply that tells a refusal
-unfoldable pub refusal_reply : Refusal → Reply
-refusal_reply refusal = record {
+-- the reply that tells a client a refusal
+unfoldable pub refusal_reply : Client → Refusal → Reply
+refusal_reply client refusal = record {
   status = (row_of refusal).status;
   fields = own_fields refusal ++ xml_type ∷ [];
-  content = error_text refusal;
+  content = error_text client refusal;
   has_content = true;
 }
 
 -- the bytes of that reply; one that ends the connection says so, and has its content whatever the method, which may not even be known
-unfoldable pub refusal_bytes : Refusal → Bool → Bool → List ℕ
-refusal_bytes refusal head_only last =
-    reply_text (refusal_reply refusal) (head_only && not (row_of refusal).closing) (last || (row_of refusal).closing)
+unfoldable pub refusal_bytes : Client → Refusal → Bool → Bool → List ℕ
+refusal_bytes client refusal head_only last =
+    reply_text (refusal_reply client refusal) (head_only && not (row_of refusal).closing) (last || (row_of refusal).closing)

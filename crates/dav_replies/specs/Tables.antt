@@ -2,6 +2,8 @@
 use Rattle.std.specs.Prelude.{ℕ, Bool, true, false, List, ◌==◌, codes, Option, Some, None, is_some, if◌then◌else◌}
 use Rattle.dsv_base.specs.declared.form.Form.{Form}
 use Rattle.dsv_base.specs.declared.form.Form.TheVariants.{Svndiff, ContentEncoding, PostType, IfCondition, CopyDepth, Doctype, Processing, Propname, SharedLock, LockRefresh, Report, ReportPlace, Switch, UpdateTarget, LinkPath, Mixed, Depth, SeveralPaths, MergedRevisions, Later}
+use Rattle.dav_replies.specs.declared.client.Client.{Client}
+use Rattle.dav_replies.specs.declared.client.Client.TheVariants.{Plain, Guest}
 use Rattle.dav_replies.specs.declared.refusal.Refusal.{Refusal}
 use Rattle.dav_replies.specs.declared.refusal.Refusal.TheVariants.{BadMessage, BadTarget, BadBody, BadHeader, NeedsLogin, Denied, InfiniteDepth, NoNode, NoRevision, NoTransaction, WrongMethod, Exists, NoParent, OutOfDate, Conflict, WrongToken, WrongText, NotOverwritten, BodyTooLarge, Locked, HeadTooLarge, KeeperFault, NotInProfile, NoMemory, FullRevisions, TooManyTransactions, TooManyChanges, PathTooLong, TooManyLocks}
 
@@ -51,6 +53,31 @@ row_of TooManyTransactions = staying 26 (codes "TooManyTransactions") 507
 row_of TooManyChanges = staying 27 (codes "TooManyChanges") 507
 row_of PathTooLong = staying 28 (codes "PathTooLong") 507
 row_of TooManyLocks = staying 29 (codes "TooManyLocks") 507
+
+-- the number that Subversion has for what a refusal tells (svn_error_codes.h): SVN_ERR_RA_DAV_REQUEST_FAILED where it has none of its own
+abbrev pub subversion_code : Refusal → ℕ
+subversion_code BadTarget = 160005
+subversion_code NeedsLogin = 170001
+subversion_code Denied = 220001
+subversion_code NoNode = 160013
+subversion_code (NoRevision rev) = 160006
+subversion_code NoTransaction = 160007
+subversion_code (WrongMethod kind) = 175008
+subversion_code (Exists kind) = 160020
+subversion_code NoParent = 160013
+subversion_code (OutOfDate created) = 160028
+subversion_code (Conflict path) = 160024
+subversion_code WrongToken = 160040
+subversion_code (WrongText told got) = 200014
+subversion_code NotOverwritten = 160020
+subversion_code (Locked path) = 160035
+subversion_code (NotInProfile form) = 200007
+subversion_code _ = 175002
+
+-- the number by which a client is told a refusal: one of Subversion's goes by Subversion's numbers, but where the connection ends
+abbrev pub code_for : Client → Refusal → ℕ
+code_for Plain refusal = (row_of refusal).code
+code_for Guest refusal = if (row_of refusal).closing then (row_of refusal).code else subversion_code refusal
 
 -- the name of a form that is left out
 abbrev pub form_name : Form → List ℕ

@@ -3,6 +3,7 @@
 #![tactic(auto)]
 
 mod allow_kind;
+mod client;
 mod detail;
 mod error_body;
 mod fields;
@@ -16,6 +17,7 @@ mod tables;
 mod writing;
 
 pub use allow_kind::AllowKind;
+pub use client::Client;
 pub use dsv_base::{Field, Form, Reply};
 pub use laws::{codes_are_in_order, ending_codes, methods_read_back, statuses_have_reasons};
 pub use method::{Method, allow_list};

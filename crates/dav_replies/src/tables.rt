@@ -1,7 +1,8 @@
 ghost use Rattle.std.specs.Prelude.{◌≡◌, true, false};
 ghost use Rattle.std.specs.Option.{option_copied};
-ghost use Rattle.dav_replies.specs.Tables.{row_of, form_name, reason_of};
+ghost use Rattle.dav_replies.specs.Tables.{row_of, form_name, reason_of, subversion_code, code_for};
 
+use crate::client::Client;
 use crate::refusal::Refusal;
 use dsv_base::Form;
 
@@ -83,6 +84,41 @@ pub(crate) fn row_of(refusal: &Refusal) -> Row
         Refusal::TooManyChanges => Row::staying(27, b"TooManyChanges", 507),
         Refusal::PathTooLong => Row::staying(28, b"PathTooLong", 507),
         Refusal::TooManyLocks => Row::staying(29, b"TooManyLocks", 507),
+    }
+}
+
+/// The number that Subversion has for a refusal (its errors are numbered in svn_error_codes.h).
+fn subversion_code(refusal: &Refusal) -> u32
+    ensures { result ≡ subversion_code refusal.now }
+{
+    match refusal {
+        Refusal::BadTarget => 160_005,
+        Refusal::NeedsLogin => 170_001,
+        Refusal::Denied => 220_001,
+        Refusal::NoNode | Refusal::NoParent => 160_013,
+        Refusal::NoRevision { .. } => 160_006,
+        Refusal::NoTransaction => 160_007,
+        Refusal::WrongMethod { .. } => 175_008,
+        Refusal::Exists { .. } | Refusal::NotOverwritten => 160_020,
+        Refusal::OutOfDate { .. } => 160_028,
+        Refusal::Conflict { .. } => 160_024,
+        Refusal::WrongToken => 160_040,
+        Refusal::WrongText { .. } => 200_014,
+        Refusal::Locked { .. } => 160_035,
+        Refusal::NotInProfile { .. } => 200_007,
+        _ => 175_002,
+    }
+}
+
+/// The number by which a client is told a refusal: a client of Subversion goes by Subversion's, but
+/// where the refusal ends the connection, since then nobody has looked at who asks.
+pub(crate) fn code_for(client: Client, refusal: &Refusal) -> u32
+    ensures { result ≡ code_for client refusal.now }
+{
+    let row = row_of(refusal);
+    match client {
+        Client::Guest if !row.closing => subversion_code(refusal),
+        _ => u32::from(row.code),
     }
 }
 

@@ -3,6 +3,7 @@ use Rattle.std.specs.Prelude.{ℕ, List, [], true, false}
 use Rattle.dav_replies.specs.declared.refusal.Refusal as reply
 use Rattle.dav_replies.specs.declared.refusal.Refusal.TheVariants as replies
 use Rattle.dav_replies.specs.Refusals.{refusal_bytes}
+use Rattle.dav_replies.specs.declared.client.Client.TheVariants.{Plain}
 use Rattle.http_front.specs.declared.message_fault.MessageFault.{MessageFault}
 use Rattle.http_front.specs.declared.message_fault.MessageFault.TheVariants.{BadMessage, HeadTooLarge, BodyTooLarge}
 use Rattle.http_front.specs.Messages.{End, LastGiven, Left, RefusedAt}
@@ -13,9 +14,10 @@ told BadMessage = replies.BadMessage
 told HeadTooLarge = replies.HeadTooLarge
 told BodyTooLarge = replies.BodyTooLarge
 
--- its bytes, which say that the connection ends, and have their content whatever the method
+-- its bytes, which say that the connection ends, and have their content whatever the method; they are the same for every
+-- client, since the head isn't looked at
 abbrev pub closing_text : MessageFault → List ℕ
-closing_text why = refusal_bytes (told why) false true
+closing_text why = refusal_bytes Plain (told why) false true
 
 -- what is put where the bytes of a connection end so
 abbrev pub closing : End → List ℕ

@@ -3,11 +3,12 @@ ghost use Rattle.dsv_outside.specs.Causes.{HasCause};
 ghost use Rattle.http_front.specs.declared.phase.Phase.TheVariants.{Open};
 ghost use Rattle.http_front.specs.Logins.{IsNamed};
 ghost use Rattle.dav_replies.specs.Refusals.{refusal_bytes};
+ghost use Rattle.dav_replies.specs.declared.client.Client.TheVariants.{Plain};
 ghost use Rattle.dav_machine.specs.Talks.{output_of};
 ghost use Rattle.dav_serve.specs.Steps.{most_piece_bytes, has_read_fault, has_write_fault, SendSays, AnswerSays, ReceiveSays, StepSays};
 
-use dav_machine::{Call, Outgoing, Turn, is_head};
-use dav_replies::{Refusal, no_memory_bytes, refusal_bytes};
+use dav_machine::{Call, Outgoing, Turn, client_of, is_head};
+use dav_replies::{Client, Refusal, no_memory_bytes, refusal_bytes};
 use dsv_outside::{Clock, Got, Put, ServeEnd, Sink, Source};
 use http_front::{Front, Next, Request, Users};
 use std::alloc::Global;
@@ -96,17 +97,17 @@ fn output_of<'a>(request: &Request, outgoing: &'a Outgoing) -> &'a [u8]
 {
     match outgoing {
         Outgoing::Bytes(bytes) => bytes.get(),
-        Outgoing::NoMemory => no_memory_bytes(is_head(request), request.last),
+        Outgoing::NoMemory => no_memory_bytes(client_of(request), is_head(request), request.last),
     }
 }
 
-/// Tells a refusal that closes the connection.
+/// Tells a refusal that closes the connection: whoever sent it, since its head isn't looked at.
 fn refuse<K: Sink>(alloc: Global, sink: &mut K, refusal: &Refusal) -> Option<ServeEnd>
-    ensures says { SendSays true (refusal_bytes refusal.now false true)
+    ensures says { SendSays true (refusal_bytes Plain refusal.now false true)
         (K.taken sink.old) (K.taken sink.new) result }
     ensures cause { HasCause (K.faults sink.old) (K.faults sink.new) (has_write_fault result) }
 {
-    match refusal_bytes(alloc, refusal, false, true) {
+    match refusal_bytes(alloc, Client::Plain, refusal, false, true) {
         Ok(bytes) => send(sink, bytes.get(), true),
         Err(_) => Some(ServeEnd::NoMemory),
     }

@@ -1,6 +1,7 @@
 -- The fields of a head.
 use Rattle.std.specs.Prelude.{ℕ, Bool, false, List, [], ◌∷◌, map, Option, None, Some, Result, Ok, Err}
-use Rattle.std.specs.List.{filter, list_any}
+use Rattle.std.specs.List.{filter, find, list_any}
+use Rattle.std.specs.Option.{option_map}
 use Rattle.std.specs.Str.{str_eq_ignore_ascii_case}
 use Rattle.httparse.specs.Grammar.{Field as HeaderLine, field_value}
 use Rattle.dsv_base.specs.declared.field.Field.{Field}
@@ -32,6 +33,10 @@ one_at_most (value ∷ next ∷ more) = Err Doubled
 -- the value of the field of this name, if there is one; where several have it, that is a fault
 abbrev pub field_named : List ℕ → List Field → Result (Option (List ℕ)) FieldFault
 field_named name fields = one_at_most (values_named name fields)
+
+-- the value of the first field of this name, if there is one
+abbrev pub first_named : List ℕ → List Field → Option (List ℕ)
+first_named name fields = option_map (λ f. f.value) (find (is_named name) fields)
 
 -- every fault of a field is told
 abbrev pub none_is_free : FieldFault → Bool

@@ -1,6 +1,6 @@
 ghost use Rattle.std.specs.Prelude.{◌≡◌, option_copied};
 ghost use Rattle.dsv_base.specs.Gives.{GivesBy};
-ghost use Rattle.http_front.specs.Fields.{is_named, has_field, field_named, none_is_free};
+ghost use Rattle.http_front.specs.Fields.{is_named, has_field, field_named, first_named, none_is_free};
 
 use crate::field_fault::FieldFault;
 use dsv_base::Field;
@@ -37,4 +37,16 @@ pub(crate) fn field_named<'a>(
         return Ok(Some(field.value.get()));
     }
     Ok(None)
+}
+
+/// The value of the first field of this name, if there is one.
+pub(crate) fn first_named<'a>(fields: &'a [Field], name: &[u8]) -> Option<&'a [u8]>
+    ensures { option_copied result ≡ first_named name.now fields.now }
+{
+    'fields: for field in fields {
+        if is_named(field, name) {
+            return Some(field.value.get());
+        }
+    }
+    None
 }

@@ -1,9 +1,9 @@
-ghost use Rattle.std.specs.Prelude.{option_copied};
+ghost use Rattle.std.specs.Prelude.{◌≡◌, option_copied};
 ghost use Rattle.dsv_base.specs.Gives.{GivesBy};
-ghost use Rattle.http_front.specs.Fields.{field_named, none_is_free};
+ghost use Rattle.http_front.specs.Fields.{field_named, first_named, none_is_free};
 
 use crate::field_fault::FieldFault;
-use crate::fields::field_named;
+use crate::fields::{field_named, first_named};
 use crate::login::Login;
 use dsv_base::{Bytes, Field, List};
 
@@ -33,5 +33,13 @@ impl Request {
         ensures { GivesBy option_copied none_is_free result (field_named name.now self.now.fields) }
     {
         field_named(self.fields.get(), name)
+    }
+
+    /// The value of the first field of this name, in any case of letters, if there is one; whatever
+    /// follows with the same name isn't looked at.
+    pub fn first(&self, name: &[u8]) -> Option<&[u8]>
+        ensures { option_copied result ≡ first_named name.now self.now.fields }
+    {
+        first_named(self.fields.get(), name)
     }
 }

@@ -2,12 +2,13 @@ ghost use Rattle.std.specs.Prelude.{IfSome, IsTrue};
 ghost use Rattle.dav_replies.specs.Tables.{has_reason};
 
 use crate::refusals::refusal_of;
-use dav_replies::{Field, Reply, no_memory_bytes, refusal_bytes, reply_bytes};
+use dav_replies::{Client, Field, Reply, no_memory_bytes, refusal_bytes, reply_bytes};
 use dsv_base::{Bytes, List, cut_at, without_front};
 use row_files::{Answer, Given};
 
 /// The tables on the bytes of replies. The words `head` and `last` in the last column say that the reply
-/// is to HEAD, and to the connection's last request.
+/// is to HEAD, and to the connection's last request; the word `guest`, that it is one to a client of
+/// Subversion.
 #[derive(Clone, Copy)]
 pub enum ReplyTable {
     Refusal,
@@ -30,6 +31,7 @@ fn put_refusal(given: &Given<'_>, out: &mut Answer) {
     match refusal_of(given.alloc, given.text(0), given.bytes(0)) {
         Some(refusal) => out.put_made(refusal_bytes(
             given.alloc,
+            client_in(to),
             &refusal,
             to.contains("head"),
             to.contains("last"),
@@ -39,7 +41,16 @@ fn put_refusal(given: &Given<'_>, out: &mut Answer) {
 }
 
 fn put_no_memory(to: &str, out: &mut Answer) {
-    out.put(no_memory_bytes(to.contains("head"), to.contains("last")));
+    out.put(no_memory_bytes(client_in(to), to.contains("head"), to.contains("last")));
+}
+
+/// The client that a reply is to.
+fn client_in(to: &str) -> Client {
+    if to.contains("guest") {
+        Client::Guest
+    } else {
+        Client::Plain
+    }
 }
 
 /// A status, a field, the content, and to what it is the reply.

@@ -5,9 +5,9 @@ use Rattle.dsv_base.specs.declared.field.Field.{Field}
 use Rattle.dav_replies.specs.declared.allow_kind.AllowKind.TheVariants as allow
 use Rattle.dav_replies.specs.Replies.{field_of}
 use Rattle.dav_replies.specs.Methods.{allow_list}
-use Rattle.dav_machine.specs.Replies.{server_fields}
+use Rattle.dav_machine.specs.Options.{server_fields}
 use Rattle.dav_machine.proofs.Fields.{one_more, and_one}
-use Rattle.dav_machine.proofs.replies.put_server.Goals as goal
+use Rattle.dav_machine.proofs.options.put_server.Goals as goal
 
 pub returns : goal.returns
 unfolding server_fields

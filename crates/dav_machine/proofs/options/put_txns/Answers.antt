@@ -1,8 +1,8 @@
 use Rattle.std.proofs.Common.{[], ◌∷◌}
 use Rattle.std.specs.Prelude.{codes}
-use Rattle.dav_machine.specs.Replies.{stub_field, txn_fields}
+use Rattle.dav_machine.specs.Options.{stub_field, txn_fields}
 use Rattle.dav_machine.proofs.Fields.{one_more}
-use Rattle.dav_machine.proofs.replies.put_txns.Goals as goal
+use Rattle.dav_machine.proofs.options.put_txns.Goals as goal
 
 pub returns : goal.returns
 unfolding txn_fields

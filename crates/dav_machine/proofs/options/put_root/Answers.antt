@@ -1,8 +1,8 @@
 use Rattle.std.proofs.Common.{[], ◌∷◌}
 use Rattle.std.specs.Prelude.{codes}
-use Rattle.dav_machine.specs.Replies.{stub_field, root_fields}
+use Rattle.dav_machine.specs.Options.{stub_field, root_fields}
 use Rattle.dav_machine.proofs.Fields.{one_more}
-use Rattle.dav_machine.proofs.replies.put_root.Goals as goal
+use Rattle.dav_machine.proofs.options.put_root.Goals as goal
 
 pub returns : goal.returns
 unfolding root_fields
