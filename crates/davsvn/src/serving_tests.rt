@@ -4,11 +4,15 @@ use crate::serving::stations_of;
 use crate::writing::Writing;
 use davsvn_run::{Status, listen_address, run_serve};
 use dsv_base::{Bytes, NoMemory};
+use dsv_outside::Sink;
 use std::alloc::Global;
 use std::io::{Read, Write};
-use std::net::{Net, OpenStream, Shutdown, SocketAddr, TcpListener, TcpStream};
+use std::net::{Net, OpenListener, OpenStream, Shutdown, SocketAddr, TcpListener, TcpStream};
 use std::process::Abort;
+use std::rt::Runtime;
+use std::sync::Wait;
 use std::test::Fail;
+use std::thread::Threads;
 use std::{fs, io, thread};
 
 /// A repository with the file `/a`.
@@ -31,14 +35,14 @@ const REPLY_BYTES: usize = 67;
 
 const FILES: [(&str, &str); 3] = [("script", SCRIPT), ("rules", "[/]\n* = r\n"), ("users", "")];
 
-fn write_files(rt: &HostRuntime) -> io::Result<()> {
+fn write_files<R: Runtime>(rt: &R) -> io::Result<()> {
     for (name, text) in FILES {
         fs::write(rt, name, text)?;
     }
     Ok(())
 }
 
-fn remove_files(rt: &HostRuntime) -> io::Result<()> {
+fn remove_files<R: Runtime>(rt: &R) -> io::Result<()> {
     for (name, _) in FILES {
         fs::remove_file(rt, name)?;
     }
@@ -101,10 +105,16 @@ fn is_answered<S: Read>(peer: &mut S) -> io::Result<bool> {
 }
 
 /// The status of a server whose connections come by the listener.
-fn served(rt: &HostRuntime, listener: TcpListener) -> Result<Status, Fail> {
+fn served<R, L, E>(rt: &R, listener: &L, errors: &mut E) -> Result<Status, Fail>
+where
+    R: Runtime + AllocGlobal + Threads + Wait + Sync + Send + Clone + Drop,
+    L: OpenListener + Send + Drop,
+    L::Stream: Read + Write + OpenStream + Send + Drop,
+    E: Sink,
+{
     let words = serve_words(rt.alloc()).ok().ok_or("no memory")?;
     let (_, _, number) = listen_address(words.as_slice()).ok_or("the words are none of serve")?;
-    let stations = stations_of(rt, &listener, number, None)?;
+    let stations = stations_of(rt, listener, number, None)?;
     let keeper = ScriptKeeper::new(rt.clone()?, Bytes::from_vec(Vec::new(rt.alloc())));
     let served = run_serve(
         rt.alloc(),
@@ -114,7 +124,7 @@ fn served(rt: &HostRuntime, listener: TcpListener) -> Result<Status, Fail> {
         stations.clocks,
         &mut DiskFiles::new(rt.clone()?),
         keeper,
-        &mut Writing::new(rt.stderr()),
+        errors,
     );
     Ok(served.status)
 }
@@ -132,8 +142,9 @@ fn connections_side_by_side(rt: HostRuntime) -> Result<(), Fail> {
     let peers = asking_peers(&rt, address, STATIONS - 2)?;
     let in_turn = thread::spawn(&rt, move || are_answered(&mut first, &mut second).ok());
     let in_turn = in_turn.ok().ok_or("no thread")?;
-    assert_eq!(rt; served(&rt, listener)?, Status(0));
-    assert_eq!(rt; in_turn.join(&rt), Some(Some(true)));
+    let status = served(&rt, &listener, &mut Writing::new(rt.stderr()))?;
+    assert_eq!(rt; status, Status(0));
+    assert_eq!(rt; in_turn.join(&rt), Some(true));
     check_replies(&rt, peers)?;
     remove_files(&rt)?;
     Ok(())
