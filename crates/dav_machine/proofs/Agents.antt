@@ -17,15 +17,20 @@ use Rattle.dav_replies.specs.declared.client.Client.TheVariants.{Plain}
 use Rattle.dav_replies.specs.declared.method.Method.{Method}
 use Rattle.dav_replies.specs.declared.method.Method.TheVariants as sent
 use Rattle.dav_replies.specs.declared.refusal.Refusal.{Refusal}
+use Rattle.dav_replies.specs.declared.refusal.Refusal.TheVariants.{NoMemory}
+use Rattle.dav_replies.specs.Refusals.{refusal_bytes}
 use Rattle.dav_machine.specs.declared.asked.Asked.TheVariants as ask
 use Rattle.dav_machine.specs.declared.depth.Depth.{Depth}
 use Rattle.dav_machine.specs.declared.headed.Headed.{Headed}
+use Rattle.dav_machine.specs.declared.outgoing.Outgoing.{Outgoing}
+use Rattle.dav_machine.specs.declared.outgoing.Outgoing.TheVariants as outgoing
 use Rattle.dav_machine.specs.declared.headed.Headed.TheVariants as headed
 use Rattle.dav_machine.specs.AllReplies.{answer, answered, or_refusal, reply_to, written}
-use Rattle.dav_machine.specs.Chains.{by_target, kind_of, by_method, by_headers, viewer, by_login, by_body, by_aim, permitted}
+use Rattle.dav_machine.specs.Chains.{by_target, kind_of, by_method, by_headers, viewer, by_login, by_body, by_aim, permitted, is_head}
 use Rattle.dav_machine.specs.Clients.{client_by, client_of, names_no_client, without_agent}
 use Rattle.dav_machine.specs.Depths.{depth_by, depth_of, children_asked}
 use Rattle.dav_machine.specs.States.{State}
+use Rattle.dav_machine.specs.Talks.{output_of}
 
 -- ---- the fields
 
@@ -118,3 +123,8 @@ answered_alike state request moment kept plain = λ i. or_refusal (same_client r
 
 pub written_alike : (reply : Reply) (request : Request) → written reply request ≡ written reply (without_agent request)
 written_alike reply request = refl
+
+-- what is sent for an answer
+pub sent_alike : (request : Request) → client_of request ≡ Plain → (outgoing : Outgoing) → output_of request outgoing ≡ output_of (without_agent request) outgoing
+sent_alike request plain (outgoing.Bytes bytes) = refl
+sent_alike request plain outgoing.NoMemory = ap (λ (client : Client). refusal_bytes client NoMemory (is_head request) request.last) (same_client request plain)

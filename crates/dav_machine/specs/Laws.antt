@@ -10,10 +10,12 @@ use Rattle.dav_replies.specs.declared.client.Client.TheVariants.{Plain}
 use Rattle.dav_replies.specs.declared.method.Method.{Method}
 use Rattle.dav_replies.specs.declared.method.Method.TheVariants.{Options, Get, Head, Propfind}
 use Rattle.dav_replies.specs.declared.refusal.Refusal.{Refusal}
+use Rattle.dav_machine.specs.declared.outgoing.Outgoing.{Outgoing}
 use Rattle.dav_machine.specs.AllReplies.{is_reading, reply_to, read_reply, written}
 use Rattle.dav_machine.specs.Clients.{client_of, without_agent}
 use Rattle.dav_machine.specs.Chains.{permitted, viewer, path_in}
 use Rattle.dav_machine.specs.States.{State}
+use Rattle.dav_machine.specs.Talks.{output_of}
 use Rattle.dav_machine.specs.Views.{view_of}
 
 -- the reply to a reading request is a function of what the state shows to its user, and of the request
@@ -67,10 +69,11 @@ HiddenAnsweredAlike =
     → reply_to one request moment kept ≡ reply_to other request later held
 
 -- a request whose client isn't one of Subversion's is answered as the same request that doesn't tell its client is: it has
--- the same effect, and not a byte of its reply differs
+-- the same effect, and not a byte of its reply differs, nor of what is sent where there is no memory for one
 abbrev pub PlainAnsweredAlike : Type 0
 PlainAnsweredAlike =
     (state : State) (request : Request) (moment : ℕ) (kept : Bool)
     → client_of request ≡ Plain
     → (reply_to state request moment kept ≡ reply_to state (without_agent request) moment kept)
     × ((reply : Reply) → written reply request ≡ written reply (without_agent request))
+    × ((outgoing : Outgoing) → output_of request outgoing ≡ output_of (without_agent request) outgoing)

@@ -54,7 +54,7 @@ row_of TooManyChanges = staying 27 (codes "TooManyChanges") 507
 row_of PathTooLong = staying 28 (codes "PathTooLong") 507
 row_of TooManyLocks = staying 29 (codes "TooManyLocks") 507
 
--- the number that Subversion has for what a refusal tells (svn_error_codes.h): SVN_ERR_RA_DAV_REQUEST_FAILED where it has none of its own
+-- the number, one of Subversion's own (svn_error_codes.h), by which its clients go where davsvn refuses so; most refusals that they can't act on have that of a request which failed
 abbrev pub subversion_code : Refusal → ℕ
 subversion_code BadTarget = 160005
 subversion_code NeedsLogin = 170001

@@ -87,7 +87,8 @@ pub(crate) fn row_of(refusal: &Refusal) -> Row
     }
 }
 
-/// The number that Subversion has for a refusal (its errors are numbered in svn_error_codes.h).
+/// The number, one of Subversion's own (svn_error_codes.h), by which its clients go where davsvn refuses
+/// so.
 fn subversion_code(refusal: &Refusal) -> u32
     ensures { result ≡ subversion_code refusal.now }
 {
@@ -110,8 +111,8 @@ fn subversion_code(refusal: &Refusal) -> u32
     }
 }
 
-/// The number by which a client is told a refusal: a client of Subversion goes by Subversion's, but
-/// where the refusal ends the connection, since then nobody has looked at who asks.
+/// The number by which a client is told a refusal: a client of Subversion goes by Subversion's. A
+/// refusal that ends the connection has one number for all.
 pub(crate) fn code_for(client: Client, refusal: &Refusal) -> u32
     ensures { result ≡ code_for client refusal.now }
 {

@@ -15,7 +15,7 @@ told HeadTooLarge = replies.HeadTooLarge
 told BodyTooLarge = replies.BodyTooLarge
 
 -- its bytes, which say that the connection ends, and have their content whatever the method; they are the same for every
--- client, since the head isn't looked at
+-- client, whatever its head tells
 abbrev pub closing_text : MessageFault → List ℕ
 closing_text why = refusal_bytes Plain (told why) false true
 

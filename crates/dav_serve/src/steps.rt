@@ -101,7 +101,7 @@ fn output_of<'a>(request: &Request, outgoing: &'a Outgoing) -> &'a [u8]
     }
 }
 
-/// Tells a refusal that closes the connection: whoever sent it, since its head isn't looked at.
+/// Tells a refusal that closes the connection, in the same bytes to every client.
 fn refuse<K: Sink>(alloc: Global, sink: &mut K, refusal: &Refusal) -> Option<ServeEnd>
     ensures says { SendSays true (refusal_bytes Plain refusal.now false true)
         (K.taken sink.old) (K.taken sink.new) result }
