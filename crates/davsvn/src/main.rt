@@ -11,8 +11,6 @@ mod network_tests;
 mod reading;
 mod script_keeper;
 mod serving;
-#[cfg(test)]
-mod serving_tests;
 mod system_clock;
 mod writing;
 
